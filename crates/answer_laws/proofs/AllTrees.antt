@@ -13,7 +13,8 @@ use Rattle.rhythm_base.specs.Shape.{Shape}
 use Rattle.rhythm_base.specs.Trees.{are_trees, children_of, is_tree, suits}
 use Rattle.tree_laws.specs.Shares.{AreBelow}
 use Rattle.tree_laws.proofs.Shares.{children-below}
-use Rattle.answer_laws.proofs.FiniteSets.{IsWithinList, member_first, member_map, member_products, products}
+use Rattle.answer_laws.proofs.FiniteSets.{IsWithinList, member_first, member_products, products}
+use Rattle.kern_writer.proofs.Merging.{contains_map}
 
 abbrev tree : ℕ → Forest → Tree
 tree r kids = record { rule = r; kids = kids }
@@ -69,7 +70,7 @@ module _ (rules : List Rule) where
   of_rule q n own t same is =
       let fits : are_trees rules (children_of (slice_get rules n) q.0) t.kids ≡ true =
       subst (λ r. are_trees rules (children_of (slice_get rules r) q.0) t.kids ≡ true) (sym same) (and_parts (suits (slice_get rules t.rule) q) _ is).1 in
-      subst (λ r. Contains (map (tree n) own.0) (tree r t.kids)) same (member_map (tree n) own.0 t.kids (own.1 t.kids fits))
+      subst (λ r. Contains (map (tree n) own.0) (tree r t.kids)) same (contains_map (tree n) own.0 t.kids (own.1 t.kids fits))
 
   abbrev ToppedBelow : ℕ × ℕ → ℕ → Type 0
   ToppedBelow q n = IsWithinList {X = Tree} (λ t. (t.rule < n) × (is_topped q t ≡ true))

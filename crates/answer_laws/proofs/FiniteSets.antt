@@ -6,6 +6,7 @@ use Rattle.std.proofs.lemmas.List.Elements.{All-nil, Contains-append_left, Conta
 use Rattle.rhythm_base.proofs.FirstLists.{contains_split}
 use Rattle.rhythm_base.proofs.OrderedLists.{all_cons}
 use Rattle.answer_laws.proofs.Decisions.{Decided}
+use Rattle.kern_writer.proofs.Merging.{contains_map}
 
 module _ {X : Type 0} where
   pub member_first : (x : X) (xs : List X) → Contains (x ∷ xs) x
@@ -23,13 +24,6 @@ module _ {X : Type 0} where
   there (x ∷ xs) zero less = (x, refl)
   there (x ∷ xs) (suc i) less = there xs i (omega (arith, less))
 
-pub member_map : {X Y : Type 0} (f : X → Y) (xs : List X) (x : X) → Contains xs x → Contains (map f xs) (f x)
-member_map f [] x c = absurd (no_member x c)
-member_map f (y ∷ xs) x c = elim (contains_split x y xs c) [
-  | inl same ↦ subst (λ z. Contains (map f (y ∷ xs)) (f z)) same (member_first (f y) (map f xs))
-  | inr later ↦ member_later (f x) (f y) (map f xs) (member_map f xs x later)
-]
-
 -- each of one list with each of another
 abbrev pub products : {X Y Z : Type 0} → (X → Y → Z) → List X → List Y → List Z
 products f [] ys = []
@@ -38,7 +32,7 @@ products f (x ∷ xs) ys = map (f x) ys ++ products f xs ys
 pub member_products : {X Y Z : Type 0} (f : X → Y → Z) (xs : List X) (ys : List Y) (x : X) (y : Y) → Contains xs x → Contains ys y → Contains (products f xs ys) (f x y)
 member_products f [] ys x y c d = absurd (no_member x c)
 member_products f (z ∷ xs) ys x y c d = elim (contains_split x z xs c) [
-  | inl same ↦ Contains-append_left (map (f z) ys) (products f xs ys) (f x y) (subst (λ w. Contains (map (f z) ys) (f w y)) same (member_map (f z) ys y d))
+  | inl same ↦ Contains-append_left (map (f z) ys) (products f xs ys) (f x y) (subst (λ w. Contains (map (f z) ys) (f w y)) same (contains_map (f z) ys y d))
   | inr later ↦ Contains-append_right (map (f z) ys) (products f xs ys) (f x y) (member_products f xs ys x y later d)
 ]
 

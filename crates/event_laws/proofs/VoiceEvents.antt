@@ -23,6 +23,7 @@ use Rattle.voice_events.specs.Writable.{IsWritable}
 use Rattle.voice_events.proofs.BarUnits.{signatures_kept, some_bar}
 use Rattle.voice_events.proofs.ScoreEvents.{decided, events_exist, events_follow}
 use Rattle.event_laws.specs.Laws.{ScoreTextsHaveTheirEvents, TextsHaveTheirEvents, TextsHaveVoiceEvents}
+use Rattle.rhythm_base.proofs.PairedLists.{each_length}
 
 -- ---- what is read of its text are the events of the score
 
@@ -46,11 +47,6 @@ their_events g p s text readable formed of (t, own, written) =
 
 -- ---- and a writer can take them
 
-as_many : {X Y : Type 0} (Of : X → Y → Type 0) (xs : List X) (ys : List Y) → Each Of xs ys → length ys ≡ length xs
-as_many Of [] ys each = ap length each
-as_many Of (x ∷ xs) [] each = absurd each
-as_many Of (x ∷ xs) (y ∷ ys) each = ap suc (as_many Of xs ys each.1)
-
 some_events : (g : Grammar) (p : Performance) (text : List ℕ) → IsReadable g → IsWellFormed p → IsTextOf g p text
     → (k : KernColumns) × (score_of text ≡ Ok k) × (events : List KernEvent) × AreEvents k events
 some_events g p text readable formed (s, of, written) =
@@ -66,7 +62,7 @@ text_events g p text k events readable formed (s, of, written) read are =
     let same : k ≡ own_k = same_value (score_of text) k own_k read own_read in
     let score_events = (exactly events).0 (subst (λ k. AreEvents k events) same are) in
     let own = events_follow s events (scores_one.can_be_written g p s readable formed of) score_events in
-    let count : length s.voices ≡ length p.channels = as_many _ p.channels s.voices of.voices in
+    let count : length s.voices ≡ length p.channels = each_length _ p.channels s.voices of.voices in
     subst (λ n. AreVoiceEvents g.resolution (map (score_bar p) p.bars) n events) count
     (subst (λ (bars : List ScoreBar). AreVoiceEvents g.resolution bars (length s.voices) events) of.bars
     (subst (λ r. AreVoiceEvents r s.bars (length s.voices) events) of.resolution own))
@@ -75,7 +71,7 @@ writable : (g : Grammar) (p : Performance) (text : List ℕ) → IsReadable g �
     → IsWritable g.resolution (map (score_bar p) p.bars) (length p.channels)
 writable g p text readable formed (s, of, written) =
     let is : IsScore s = scores_one.can_be_written g p s readable formed of in
-    let count : length s.voices ≡ length p.channels = as_many _ p.channels s.voices of.voices in
+    let count : length s.voices ≡ length p.channels = each_length _ p.channels s.voices of.voices in
     let bars = length-map p.bars (score_bar p) in
     record {
       some_unit = subst (λ r. 1 ≤ r) of.resolution is.some_unit;

@@ -3,6 +3,7 @@ use Rattle.std.proofs.Common.{◌≡◌, ℕ, zero, suc, ◌≤◌, List, [], �
 use Rattle.std.specs.Prelude.{Contains, fold}
 use Rattle.std.specs.List.{zip}
 use Rattle.rhythm_base.specs.Lists.{Each}
+use Rattle.rhythm_base.proofs.PairedLists.{each_length}
 
 -- it holds of one
 abbrev pub HasOne : {X : Type 0} → (X → Type 0) → List X → Type 0
@@ -49,11 +50,6 @@ each_second R P [] (y ∷ ys) weaker each = absurd (no (ap length each))
     no h = omega (arith, h)
 each_second R P (x ∷ xs) [] weaker each = absurd each
 each_second R P (x ∷ xs) (y ∷ ys) weaker (own, rest) = (weaker x y own, each_second R P xs ys weaker rest)
-
-pub each_lengths : {X Y : Type 0} (R : X → Y → Type 0) (xs : List X) (ys : List Y) → Each R xs ys → length ys ≡ length xs
-each_lengths R [] ys each = ap length each
-each_lengths R (x ∷ xs) [] each = absurd each
-each_lengths R (x ∷ xs) (y ∷ ys) (own, rest) = ap suc (each_lengths R xs ys rest)
 
 pub each_first : {X Y Z : Type 0} (R : X → Y → Type 0) (S : Z → Y → Type 0) (f : X → Z) (xs : List X) (ys : List Y) → ((x : X) (y : Y) → R x y → S (f x) y) → Each R xs ys → Each S (map f xs) ys
 each_first R S f [] ys weaker each = each

@@ -16,9 +16,10 @@ use Rattle.kern_laws.proofs.BarFits.{voice_fits}
 use Rattle.kern_laws.proofs.BarLines.{FitsBars}
 use Rattle.kern_laws.proofs.BarVoice.{AreVoice, are_voice}
 use Rattle.kern_laws.proofs.LineEnds.{IsDone, score_walk}
-use Rattle.kern_laws.proofs.LineLists.{Every, each_lengths}
+use Rattle.kern_laws.proofs.LineLists.{Every}
 use Rattle.kern_laws.proofs.LineWalk.{walk_stands}
 use Rattle.kern_laws.proofs.TieValues.{voice_linked}
+use Rattle.rhythm_base.proofs.PairedLists.{each_length}
 
 pub few_parts : (r : ℕ) → r ≤ MOST_UNITS → 64 * r ≤ 61440
 few_parts r few = let most : r ≤ 960 = few in omega (arith, most)
@@ -46,7 +47,7 @@ all_fit r bars (sounds ∷ voices) (vss ∷ values) some few right well (own, re
 -- all lines of a score that can be written stand, to its end
 pub score_done : (s : Score) (lines : List KernLine) → IsScore s → (are : AreScoreLines s lines) → (after : List KernLine) × IsDone s.resolution s.bars (map voice_said are.values) lines after
 score_done s lines is are =
-    let width : length (map voice_said are.values) ≡ length s.voices = length-map are.values voice_said ∙ each_lengths (AreVoiceValues s.resolution 0 s.bars) s.voices are.values are.are_values in
+    let width : length (map voice_said are.values) ≡ length s.voices = length-map are.values voice_said ∙ each_length (AreVoiceValues s.resolution 0 s.bars) s.voices are.values are.are_values in
     let few = few_parts s.resolution is.few_units in
     let some : 1 ≤ 64 * s.resolution = let h = is.some_unit in omega (arith, h) in
     let voiced : 1 ≤ length (map voice_said are.values) = let h = is.some_voice in omega (arith, width, h) in
@@ -57,5 +58,5 @@ score_done s lines is are =
 pub lines_stand : (s : Score) (lines : List KernLine) → IsScore s → AreScoreLines s lines → StandFrom (length s.voices) [] lines
 lines_stand s lines is are =
     let (after, done) = score_done s lines is are in
-    let width : length (map voice_said are.values) ≡ length s.voices = length-map are.values voice_said ∙ each_lengths (AreVoiceValues s.resolution 0 s.bars) s.voices are.values are.are_values in
+    let width : length (map voice_said are.values) ≡ length s.voices = length-map are.values voice_said ∙ each_length (AreVoiceValues s.resolution 0 s.bars) s.voices are.values are.are_values in
     subst (λ n. StandFrom n [] lines) width (walk_stands (length (map voice_said are.values)) [] lines after done.walk done.over)

@@ -22,9 +22,10 @@ use Rattle.kern_reader.proofs.SpineLemmas.{spine_scaled}
 use Rattle.kern_laws.specs.Lines.{KernLine}
 use Rattle.kern_laws.proofs.ScoreLines.{Body, Data, ending_line, HasTurn, Head, Last, Over, Stage}
 use Rattle.kern_laws.proofs.GridParts.{grid_divides, finer_times}
-use Rattle.kern_laws.proofs.LineLists.{Every, HasOne, each_lengths, least_from}
+use Rattle.kern_laws.proofs.LineLists.{Every, HasOne, least_from}
 use Rattle.kern_laws.proofs.LineWalk.{IsGood}
 use Rattle.kern_laws.proofs.PlaceParts.{IsHeard}
+use Rattle.rhythm_base.proofs.PairedLists.{each_length}
 
 -- after the head, with values on a grid that is as fine as can be read
 pub record IsBody (n grid : ℕ) (before : List KernLine) : Type 0 where
@@ -212,7 +213,7 @@ data_good n grid m signature before ts some few is each low one = (
       stage = refl;
       well = All-cons IsWellLine (Data ts) before (all_well grid m graces ts columns each) is.body.well;
       divides = divides;
-      wide = length_added ts columns (each_lengths (IsHeard grid m graces) ts columns each) ∙ is.body.wide;
+      wide = length_added ts columns (each_length (IsHeard grid m graces) ts columns each) ∙ is.body.wide;
     };
     bar = is.bar;
     next = is.next;

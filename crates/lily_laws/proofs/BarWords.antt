@@ -134,7 +134,7 @@ bar_some r bar some is =
 abbrev pub signature : ScoreBar → Frac
 signature bar = frac bar.num bar.den
 
-den_some : (den : ℕ) → 1 * den * (64 / den) ≡ 64 * 1 → 1 ≤ den
+pub den_some : (den : ℕ) → 1 * den * (64 / den) ≡ 64 * 1 → 1 ≤ den
 den_some zero e = absurd (omega (arith, e))
 den_some (suc d) e = omega arith
 

@@ -52,7 +52,7 @@ pitch_word flats k rest few ends =
 
 -- ---- the words of a chord
 
-value_ends : (text : List ℕ) → begins_value text ≡ true → prefix_len is_lily_pitch_byte text ≡ 0
+pub value_ends : (text : List ℕ) → begins_value text ≡ true → prefix_len is_lily_pitch_byte text ≡ 0
 value_ends [] h = refl
 value_ends (b ∷ bs) h = let other : is_lily_pitch_byte b ≡ false = grind (arith, nat_tests) in rw other refl
 

@@ -126,7 +126,7 @@ elements_spaced flats (e ∷ es) are =
 
 -- ---- bytes of words are printed
 
-pitch_byte_graphic : (b : ℕ) → is_lily_pitch_byte b ≡ true → is_graphic b ≡ true
+pub pitch_byte_graphic : (b : ℕ) → is_lily_pitch_byte b ≡ true → is_graphic b ≡ true
 pitch_byte_graphic b h = grind (arith, nat_tests)
 
 pub pitch_bytes : (p : List ℕ) → is_pitch p ≡ true → list_all is_lily_pitch_byte p ≡ true

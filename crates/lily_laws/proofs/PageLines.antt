@@ -40,10 +40,10 @@ lines_split (line ∷ lines) h =
 free : ℕ → Bool
 free b = not (b == 10)
 
-digit_free : (b : ℕ) → is_ascii_digit b ≡ true → not (b == 10) ≡ true
+pub digit_free : (b : ℕ) → is_ascii_digit b ≡ true → not (b == 10) ≡ true
 digit_free b h = printing_no_newline b (graphic_prints b (digit_graphic b h))
 
-number_free : (n : ℕ) → lacks 10 (decimal n) ≡ true
+pub number_free : (n : ℕ) → lacks 10 (decimal n) ≡ true
 number_free n = all_weaker is_ascii_digit (λ b. not (b == 10)) (decimal n) digit_free (decimal_digits n)
 
 -- any one of some texts, or none

@@ -60,7 +60,7 @@ tempo_heard : (before : Staff) (bar : ScoreBar) → hear_line before (lily_tempo
 unfolding hear_line
 tempo_heard before bar = refl
 
-numbers_read : (num den : ℕ) → 1 ≤ num → num ≤ 64 → is_den den ≡ true
+pub numbers_read : (num den : ℕ) → 1 ≤ num → num ≤ 64 → is_den den ≡ true
     → bar_fraction (decimal num ++ codes "/" ++ decimal den) ≡ Some (frac num den)
 numbers_read num den some few power =
     let range = part_range den power in

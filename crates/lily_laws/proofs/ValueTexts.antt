@@ -35,10 +35,10 @@ marks_read false false = refl
 
 -- ---- the parts of the text, each of its own bytes
 
-digit_is_base : (b : ℕ) → is_ascii_digit b ≡ true → is_base_byte b ≡ true
+pub digit_is_base : (b : ℕ) → is_ascii_digit b ≡ true → is_base_byte b ≡ true
 digit_is_base b h = or_left (is_ascii_digit b) _ h
 
-digit_is_scale : (b : ℕ) → is_ascii_digit b ≡ true → is_scale_byte b ≡ true
+pub digit_is_scale : (b : ℕ) → is_ascii_digit b ≡ true → is_scale_byte b ≡ true
 digit_is_scale b h = or_left (is_ascii_digit b) _ h
 
 base_bytes : (r : Recip) → list_all is_base_byte (base_text r) ≡ true
@@ -55,7 +55,7 @@ by_scale P p n none some = go (p == n)
     go true = none
     go false = some
 
-number_bytes : (n : ℕ) → list_all is_scale_byte (decimal n) ≡ true
+pub number_bytes : (n : ℕ) → list_all is_scale_byte (decimal n) ≡ true
 number_bytes n = all_weaker is_ascii_digit is_scale_byte (decimal n) digit_is_scale (decimal_digits n)
 
 scale_bytes : (r : Recip) → list_all is_scale_byte (scale_text r) ≡ true
@@ -96,7 +96,7 @@ no_base (suc d) r short tied = refl
 
 -- ---- each part is read
 
-dots_read : (d : ℕ) → d ≤ 2 → dotted (replicate d 46) ≡ Some (frac (2 * 2 ^ d - 1) (2 ^ d))
+pub dots_read : (d : ℕ) → d ≤ 2 → dotted (replicate d 46) ≡ Some (frac (2 * 2 ^ d - 1) (2 ^ d))
 dots_read zero two = refl
 dots_read (suc zero) two = refl
 dots_read (suc (suc zero)) two = refl
@@ -121,7 +121,7 @@ longa_read : base_of (codes "\\longa") ≡ Some (frac 4 1)
 unfolding base_of
 longa_read = refl
 
-no_scale : scale_of [] ≡ Some (frac 1 1)
+pub no_scale : scale_of [] ≡ Some (frac 1 1)
 unfolding scale_of
 no_scale = refl
 
@@ -207,10 +207,10 @@ ending_read v short tied well =
 
 -- ---- its bytes are printed, and the first is a digit or begins a word
 
-base_byte_graphic : (b : ℕ) → is_base_byte b ≡ true → is_graphic b ≡ true
+pub base_byte_graphic : (b : ℕ) → is_base_byte b ≡ true → is_graphic b ≡ true
 base_byte_graphic b h = grind (arith, nat_tests)
 
-scale_byte_graphic : (b : ℕ) → is_scale_byte b ≡ true → is_graphic b ≡ true
+pub scale_byte_graphic : (b : ℕ) → is_scale_byte b ≡ true → is_graphic b ≡ true
 scale_byte_graphic b h = grind (arith, nat_tests)
 
 marks_graphic : (short tied : Bool) → list_all is_graphic (marks short tied) ≡ true
@@ -234,7 +234,7 @@ abbrev pub begins_value : List ℕ → Bool
 begins_value [] = false
 begins_value (b ∷ bs) = is_ascii_digit b || (b == 92)
 
-begins_more : (xs ys : List ℕ) → begins_value xs ≡ true → begins_value (xs ++ ys) ≡ true
+pub begins_more : (xs ys : List ℕ) → begins_value xs ≡ true → begins_value (xs ++ ys) ≡ true
 begins_more [] ys h = absurd (false≢true h)
 begins_more (x ∷ xs) ys h = h
 

@@ -11,19 +11,8 @@ use Rattle.std.specs.Prelude.{codes}
 use Rattle.musicxml_writer.specs.Elements.{closing}
 use Rattle.musicxml_writer.specs.Text.{IsMusicXml, head, part_list, parts_text, score_text}
 use Rattle.musicxml_writer.proofs.Appended.{four}
-
--- one more to each of two lists
-each_more : {X Y : Type 0} (R : X → Y → Type 0) (xs : List X) (ys : List Y) (x : X) (y : Y) → Each R xs ys → R x y
-    → Each R (xs ++ x ∷ []) (ys ++ y ∷ [])
-each_more R [] [] x y h own = (own, refl)
-each_more R [] (z ∷ ys) x y h own = absurd (cc)
-each_more R (w ∷ xs) [] x y h own = absurd h
-each_more R (w ∷ xs) (z ∷ ys) x y h own = (h.0, each_more R xs ys x y h.1 own)
-
-each_long : {X Y : Type 0} (R : X → Y → Type 0) (xs : List X) (ys : List Y) → Each R xs ys → length xs ≡ length ys
-each_long R [] ys h = sym (ap length h)
-each_long R (x ∷ xs) [] h = absurd h
-each_long R (x ∷ xs) (y ∷ ys) h = ap suc (each_long R xs ys h.1)
+use Rattle.rhythm_base.proofs.PairedLists.{each_push}
+use Rattle.derivation.proofs.Pairs.{each_length}
 
 text_more : (r : ℕ) (bars : List ScoreBar) (n : ℕ) (voices : List (List Sound)) (written : List (List (List Group)))
     (sounds : List Sound) (groups : List (List Group)) → length voices ≡ length written
@@ -54,9 +43,9 @@ pub one_part : (r : ℕ) (bars : List ScoreBar) (voices : List (List Sound)) (i 
 one_part r bars voices i sounds groups text one new lt item (written, each, is) are next =
     let front = take i voices in
     let longer : take (i + 1) voices ≡ front ++ sounds ∷ [] = take_more voices i sounds lt ∙ ap (λ (s : List Sound). front ++ s ∷ []) (sym item) in
-    let all = each_more (AreVoiceGroups r 0 bars) front written sounds groups each are in
+    let all = each_push (AreVoiceGroups r 0 bars) front written sounds groups each are in
     let count : 1 + length front ≡ i + 1 = omega (arith, length-take i voices, lt) in
-    let texts = text_more r bars 1 front written sounds groups (each_long (AreVoiceGroups r 0 bars) front written each) in
+    let texts = text_more r bars 1 front written sounds groups (each_length (AreVoiceGroups r 0 bars) front written each) in
     let own = parts_text r bars 1 front written in
     subst (λ vs. HaveParts r bars vs text new) (sym longer) (
       written ++ groups ∷ [],

@@ -11,13 +11,8 @@ use Rattle.answer_laws.proofs.LeastMembers.{three_ways}
 use Rattle.answer_laws.proofs.SortedMembers.{sorted}
 use Rattle.rhythm_base.specs.Lists.{AreInOrder}
 use Rattle.rhythm_base.proofs.FirstLists.{all_contained}
-use Rattle.rhythm_base.proofs.OrderedLists.{goes_through}
+use Rattle.rhythm_base.proofs.OrderedLists.{goes_through, is_less}
 use Rattle.rhythm_base.proofs.TotalOrders.{list_equal}
-
-is_less : (r : Ordering) → is_lt r ≡ true → r ≡ Less
-is_less Less h = refl
-is_less Equal h = absurd (cc)
-is_less Greater h = absurd (cc)
 
 -- the members of the set, by rising places
 pub record AreMembers {X : Type 0} (place : X → List ℕ) (S : X → Type 0) (list : List X) : Type 0 where

@@ -23,7 +23,7 @@ use Rattle.text_words.proofs.TextTests.{decimal_digits, slash_free}
 use Rattle.lily_writer.specs.Fractions.{frac, frac_plus, same_frac}
 use Rattle.lily_writer.specs.Pitches.{words}
 use Rattle.lily_writer.specs.Reading.{bar_fraction, words_of_bar}
-use Rattle.lily_laws.proofs.BarWords.{signature}
+use Rattle.lily_laws.proofs.BarWords.{den_some, signature}
 use Rattle.lily_laws.proofs.ElementWords.{spaced, words_split}
 use Rattle.lily_laws.proofs.Fractions.{plus_parts, same_value}
 use Rattle.lily_laws.proofs.WrittenParts.{part_range}
@@ -42,23 +42,9 @@ use Rattle.page_laws.proofs.InWholes.{in_wholes}
 use Rattle.page_laws.proofs.NoteWords.{bar_graphic, bar_list, bar_spaced, first_are, graces_list, group_list, groups_list, notes_list, ratio_text, sounding_list}
 use Rattle.page_laws.proofs.NotesRead.{at_notes, graces_read, hear_from, heard_as, notes_read}
 use Rattle.page_laws.proofs.PageChords.{hear_last, hear_more, hear_one}
+use Rattle.lily_laws.proofs.StavesRead.{numbers_read}
 
 -- ---- numbers
-
-pub numbers_read : (num den : ℕ) → 1 ≤ num → num ≤ 64 → is_den den ≡ true
-    → bar_fraction (decimal num ++ codes "/" ++ decimal den) ≡ Some (frac num den)
-numbers_read num den some few power =
-    let range = part_range den power in
-    let parts : slice_split (λ b. b == 47) (decimal num ++ codes "/" ++ decimal den) ≡ decimal num ∷ decimal den ∷ [] =
-    ap (slice_split (λ b. b == 47)) (append_assoc (decimal num) (codes "/") (decimal den))
-    ∙ split_first 47 (decimal num) (decimal den) (slash_free num)
-    ∙ ap (λ pieces. decimal num ∷ pieces) (split_last 47 (decimal den) (slash_free den)) in
-    let read : signature_of_numbers (decimal num ∷ decimal den ∷ []) ≡ signature_of_parts num den =
-    ap (λ o. o >>= λ n. number_of 64 (decimal den) >>= λ d. signature_of_parts n d) (number_back 64 num some few (omega arith))
-    ∙ ap (λ o. o >>= λ d. signature_of_parts num d) (number_back 64 den range.0 range.1 (omega arith)) in
-    ap (λ pieces. option_map (λ (s : TimeSignature). frac s.num s.den) (signature_of_numbers pieces)) parts
-    ∙ ap (option_map (λ (s : TimeSignature). frac s.num s.den)) read
-    ∙ ap (λ b. option_map (λ (s : TimeSignature). frac s.num s.den) (if b then Some (record { num = num; den = den }) else None)) power
 
 ratio_numbers : (ratio : Ratio) → 1 ≤ ratio.actual → ratio.actual ≤ 960 → 1 ≤ ratio.normal → ratio.normal ≤ 960
     → bracket_ratio (slice_split (λ b. b == 47) (ratio_text ratio)) ≡ Some (frac ratio.normal ratio.actual)
@@ -101,10 +87,6 @@ ratio_read ratio some few other most =
     first (d ∷ ds) digits more empty = by_digit d (ds ++ more) (and_parts (is_ascii_digit d) (list_all is_ascii_digit ds) digits).0
 
 -- ---- the length of a bar
-
-den_some : (den : ℕ) → 1 * den * (64 / den) ≡ 64 * 1 → 1 ≤ den
-den_some zero e = absurd (omega (arith, e))
-den_some (suc d) e = omega arith
 
 signature_parts : (r : ℕ) (bar : ScoreBar) → 1 ≤ 64 * r → IsScoreBar bar → signature bar ≡ frac (score_bar_parts r bar) (64 * r)
 signature_parts r bar some is =

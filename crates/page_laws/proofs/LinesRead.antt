@@ -15,7 +15,7 @@ use Rattle.text_words.proofs.TextTests.{all_append, all_weaker, decimal_digits, 
 use Rattle.lily_writer.specs.Fractions.{frac}
 use Rattle.lily_laws.proofs.BarWords.{signature}
 use Rattle.lily_laws.proofs.ElementWords.{pitch_words, spaced, spaced_in_line}
-use Rattle.lily_laws.proofs.PageLines.{are_lines, changes_lines}
+use Rattle.lily_laws.proofs.PageLines.{are_lines, changes_lines, number_free}
 use Rattle.notation.specs.declared.clef.Clef.{Clef}
 use Rattle.notation.specs.declared.clef.Clef.TheVariants.{BassBelow, Bass, Treble, TrebleAbove}
 use Rattle.notation.specs.Notes.{Group, Note, is_empty}
@@ -28,11 +28,12 @@ use Rattle.page_laws.specs.Hearing.{HeardStaff}
 use Rattle.page_laws.specs.Reading.{PageStaff, begins_staff, ends_in, hear_page_bar, hear_page_line, spans_of_lines}
 use Rattle.text_words.specs.Steps.{◌>>=◌}
 use Rattle.rhythm_base.specs.declared.span.Frac.{Frac}
-use Rattle.page_laws.proofs.BarsRead.{bar_text, numbers_read}
+use Rattle.page_laws.proofs.BarsRead.{bar_text}
 use Rattle.page_laws.proofs.NoteWords.{bar_graphic, bar_list, graces_list, group_list, groups_list, note_list, notes_list, own_list, ratio_text, sounding_list}
 use Rattle.page_laws.proofs.PageChords.{page_chord_words}
 use Rattle.page_laws.proofs.PagePitches.{is_page_pitch, pitch_is}
 use Rattle.page_laws.proofs.PageValues.{ending_text}
+use Rattle.lily_laws.proofs.StavesRead.{numbers_read}
 
 -- ---- how lines end
 
@@ -304,12 +305,6 @@ pub head_begins : (channel : ℕ) → begins_staff (staff_head channel) ≡ true
 head_begins channel = refl
 
 -- ---- none of them has a newline
-
-digit_free : (b : ℕ) → is_ascii_digit b ≡ true → not (b == 10) ≡ true
-digit_free b h = printing_no_newline b (graphic_prints b (digit_graphic b h))
-
-pub number_free : (n : ℕ) → lacks 10 (decimal n) ≡ true
-number_free n = all_weaker is_ascii_digit (λ b. not (b == 10)) (decimal n) digit_free (decimal_digits n)
 
 free : ℕ → Bool
 free b = not (b == 10)

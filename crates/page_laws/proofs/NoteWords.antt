@@ -14,7 +14,7 @@ use Rattle.score_words.proofs.SetKeys.{KeysRise, keys_rise}
 use Rattle.text_words.proofs.TextTests.{all_alike, all_append, all_weaker, decimal_digits, digit_graphic, is_graphic}
 use Rattle.lily_writer.specs.Pitches as lily
 use Rattle.lily_writer.specs.Words.{is_lily_pitch_byte}
-use Rattle.lily_laws.proofs.ElementWords.{later_words, pitch_words, pitches_spaced, some_key, spaced}
+use Rattle.lily_laws.proofs.ElementWords.{later_words, pitch_byte_graphic, pitch_words, pitches_spaced, some_key, spaced}
 use Rattle.notation.specs.declared.note.Ratio.{Ratio}
 use Rattle.notation.specs.Notes.{Group, Note, is_empty}
 use Rattle.notation_laws.specs.Written.{IsWrittenGroup, IsWrittenNote}
@@ -233,9 +233,6 @@ bar_spaced resolution bar silent groups right all = go (silent == 0)
 
 abbrev pub are_graphic : List (List ℕ) → Bool
 are_graphic ws = list_all (list_all is_graphic) ws
-
-pitch_byte_graphic : (b : ℕ) → is_lily_pitch_byte b ≡ true → is_graphic b ≡ true
-pitch_byte_graphic b h = grind (arith, nat_tests)
 
 decimal_graphic : (n : ℕ) → list_all is_graphic (decimal n) ≡ true
 decimal_graphic n = all_weaker is_ascii_digit is_graphic (decimal n) digit_graphic (decimal_digits n)

@@ -23,6 +23,7 @@ use Rattle.page_laws.specs.Hearing.{HeardStaff, PageSide, among_graces, among_no
 use Rattle.page_laws.specs.Reading.{hear_page_words}
 use Rattle.page_laws.specs.Words.{PageWord, first_key, last_key, middle_key, page_ending, page_key, page_word, page_pitched_word, single_key, page_word_of_key}
 use Rattle.page_laws.proofs.PagePitches.{is_page_pitch, pitch_is, pitch_read}
+use Rattle.lily_laws.proofs.ChordsHeard.{value_ends}
 
 -- ---- words are heard one after another
 
@@ -97,10 +98,6 @@ pitch_word sf k rest key few ends =
     by_pitch (page_pitch sf k) rest is ∙ pitched (page_pitch sf k) rest k (pitch_bytes (page_pitch sf k) is) (pitch_read sf k key few) ends
 
 -- ---- the words of a chord
-
-value_ends : (text : List ℕ) → begins_value text ≡ true → prefix_len is_lily_pitch_byte text ≡ 0
-value_ends [] h = refl
-value_ends (b ∷ bs) h = let other : is_lily_pitch_byte b ≡ false = grind (arith, nat_tests) in rw other refl
 
 value_follows : (k : ℕ) (text : List ℕ) → begins_value text ≡ true → page_word_of_key k text
     ≡ option_map (λ e. single_key k e) (page_ending text)

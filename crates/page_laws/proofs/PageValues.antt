@@ -21,7 +21,7 @@ use Rattle.text_words.proofs.TextTests.{all_alike, all_append, all_weaker, decim
 use Rattle.lily_writer.specs.Fractions.{frac, frac_times, same_frac}
 use Rattle.lily_writer.specs.Words.{WordEnding, after_front, dotted, front, is_base_byte, is_dot, is_scale_byte, scale_of, word_marks}
 use Rattle.lily_laws.proofs.Fractions.{same_value, times_parts}
-use Rattle.lily_laws.proofs.ValueTexts.{begins_value}
+use Rattle.lily_laws.proofs.ValueTexts.{base_byte_graphic, begins_more, begins_value, digit_is_base, dots_read, no_scale, number_bytes, scale_byte_graphic}
 use Rattle.page_writer.specs.Groups.{short_text, tie_text}
 use Rattle.page_writer.specs.Values.{base_text, page_value, scale_text}
 use Rattle.notation_laws.specs.Written.{IsHalvedPart, IsWrittenValue}
@@ -96,21 +96,12 @@ record IsRecipText (r : Recip) : Type 0 where
   grid : 1 ≤ plain_grid r
   grown : (k e : ℕ) → 1 ≤ e → frac_times (frac_times (base_frac r) (frac k e)) (scale_frac r) ≡ frac (plain_parts r * k) (plain_grid r * e)
 
-digit_is_base : (b : ℕ) → is_ascii_digit b ≡ true → is_base_byte b ≡ true
-digit_is_base b h = or_left (is_ascii_digit b) _ h
-
-digit_is_scale : (b : ℕ) → is_ascii_digit b ≡ true → is_scale_byte b ≡ true
-digit_is_scale b h = or_left (is_ascii_digit b) _ h
-
-number_scales : (n : ℕ) → list_all is_scale_byte (decimal n) ≡ true
-number_scales n = all_weaker is_ascii_digit is_scale_byte (decimal n) digit_is_scale (decimal_digits n)
-
 scale_text_bytes : (n : ℕ) → list_all is_scale_byte (scale_text (Of n)) ≡ true
 scale_text_bytes n = go (nat_le n 1024)
   where
     go : (b : Bool) → list_all is_scale_byte (if b then [] else codes "*1/" ++ decimal (n / 1024)) ≡ true
     go true = refl
-    go false = all_append is_scale_byte (codes "*1/") (decimal (n / 1024)) refl (number_scales (n / 1024))
+    go false = all_append is_scale_byte (codes "*1/") (decimal (n / 1024)) refl (number_bytes (n / 1024))
 
 part_text : (n k : ℕ) → k < 16 → n ≡ 2 ^ k → IsRecipText (Of n)
 part_text n k few is = record {
@@ -162,10 +153,6 @@ breve_read = refl
 longa_read : page_base (codes "\\longa") ≡ Some (frac 4 1)
 unfolding page_base
 longa_read = refl
-
-no_scale : scale_of [] ≡ Some (frac 1 1)
-unfolding scale_of
-no_scale = refl
 
 whole_grown : (m k e : ℕ) → 1 ≤ e → frac_times (frac_times (frac m 1) (frac k e)) (frac 1 1) ≡ frac (m * k) (1 * e)
 whole_grown m k e other =
@@ -237,12 +224,6 @@ no_base : (d : ℕ) (r : Recip) (short tied : Bool) → prefix_len is_base_byte 
 no_base zero r short tied = not_begun is_base_byte refl refl refl r short tied
 no_base (suc d) r short tied = refl
 
-dots_read : (d : ℕ) → d ≤ 2 → dotted (replicate d 46) ≡ Some (frac (2 * 2 ^ d - 1) (2 ^ d))
-dots_read zero two = refl
-dots_read (suc zero) two = refl
-dots_read (suc (suc zero)) two = refl
-dots_read (suc (suc (suc d))) two = absurd (omega (arith, two))
-
 -- ---- the text
 
 abbrev pub ending_text : Value → Bool → Bool → List ℕ
@@ -288,12 +269,6 @@ ending_read v short tied well =
 
 -- ---- its bytes are printed, and the first is a digit or begins a word
 
-base_byte_graphic : (b : ℕ) → is_base_byte b ≡ true → is_graphic b ≡ true
-base_byte_graphic b h = grind (arith, nat_tests)
-
-scale_byte_graphic : (b : ℕ) → is_scale_byte b ≡ true → is_graphic b ≡ true
-scale_byte_graphic b h = grind (arith, nat_tests)
-
 marks_graphic : (short tied : Bool) → list_all is_graphic (marks short tied) ≡ true
 marks_graphic true true = refl
 marks_graphic true false = refl
@@ -311,10 +286,6 @@ ending_graphic v short tied well =
     (all_append is_graphic base dots (all_weaker is_base_byte is_graphic base base_byte_graphic is.base_bytes)
     (all_alike is_graphic v.dots 46 refl))
     (all_weaker is_scale_byte is_graphic scale scale_byte_graphic is.scale_bytes)) (marks_graphic short tied)
-
-begins_more : (xs ys : List ℕ) → begins_value xs ≡ true → begins_value (xs ++ ys) ≡ true
-begins_more [] ys h = absurd (false≢true h)
-begins_more (x ∷ xs) ys h = h
 
 pub ending_begins : (v : Value) (short tied : Bool) → IsWrittenValue v → begins_value (ending_text v short tied) ≡ true
 ending_begins v short tied well =

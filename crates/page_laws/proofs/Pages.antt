@@ -23,7 +23,7 @@ use Rattle.text_words.proofs.TextTests.{all_append, lacks}
 use Rattle.lily_writer.specs.Fractions.{frac, nothing}
 use Rattle.lily_laws.proofs.BarWords.{signature}
 use Rattle.lily_laws.proofs.Fractions.{frac_is, is_frac}
-use Rattle.lily_laws.proofs.PageLines.{are_lines, lines_split}
+use Rattle.lily_laws.proofs.PageLines.{are_lines, lines_split, number_free}
 use Rattle.notation.specs.Bars.{AreVoiceGroups}
 use Rattle.notation.specs.Clefs.{clef_of}
 use Rattle.notation.specs.Notes.{Group, is_empty}
@@ -45,7 +45,7 @@ use Rattle.page_laws.specs.Laws.{PagesAreReadBack}
 use Rattle.page_laws.specs.Reading.{PageStaff, hear_page_line, blank_staff, page_events, span_of, spans_of_lines, page_staff_spans}
 use Rattle.page_laws.proofs.BarsRead.{bar_read}
 use Rattle.page_laws.proofs.InWholes.{in_wholes, none_in, span_in}
-use Rattle.page_laws.proofs.LinesRead.{IsSaid, bar_lines_free, bar_said, changes_said, clef_free, clef_more, head_free, line_more, none_said, number_free, some_said}
+use Rattle.page_laws.proofs.LinesRead.{IsSaid, bar_lines_free, bar_said, changes_said, clef_free, clef_more, head_free, line_more, none_said, some_said}
 
 -- ---- the spans of a staff that ends
 

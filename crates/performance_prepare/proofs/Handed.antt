@@ -11,7 +11,7 @@ use Rattle.note_list.proofs.OneList.{placed_in_order}
 use Rattle.note_list.specs.Kept.{same_place}
 use Rattle.note_list.specs.Pairing.{IsPlayed}
 use Rattle.rhythm_base.proofs.Members.{Among, Pairwise, among_both, among_left, among_right, out_of, pairs_filter, pairs_from, pairs_join, pairs_weaken}
-use Rattle.rhythm_base.proofs.PairedLists.{each_append}
+use Rattle.rhythm_base.proofs.PairedLists.{each_append, each_length}
 use Rattle.rhythm_base.specs.Lists.{AreInOrder, Each}
 use Rattle.rhythm_base.specs.Performance.{place_of_note}
 use Rattle.rhythm_base.specs.declared.event.Tempo.{Tempo}
@@ -28,7 +28,7 @@ use Rattle.performance_prepare.specs.Ready.{IsReady}
 use Rattle.performance_prepare.specs.Split.{free_channels, in_order, sounds}
 use Rattle.performance_prepare.proofs.Answered.{if_ok}
 use Rattle.performance_prepare.proofs.Parting.{free_below, order_permuted, same_order, silent}
-use Rattle.performance_prepare.proofs.Strummed.{all_each, each_long, each_mapped}
+use Rattle.performance_prepare.proofs.Strummed.{all_each, each_mapped}
 use Rattle.performance_prepare.proofs.Strumming.{Before, channel_apart, notes_before, spot_apart}
 
 -- ---- where groups or borders end
@@ -307,7 +307,7 @@ module _ (channel within left : ℕ) (t : Take) (formed : IsTakeFormed t) where
   hands_formed free low =
       let moved = order_permuted Hands in
       let long = length_permutation Hands (in_order Hands) moved in
-      let many = each_long (IsHanded channel left) (Others ++ Own) Hands hands_each in
+      let many = each_length (IsHanded channel left) (Others ++ Own) Hands hands_each in
       let whole = length_permutation t.notes (Others ++ Own) both_permuted in
       record {
         division_low = formed.division_low;

@@ -7,7 +7,7 @@ use Rattle.note_list.proofs.OneList.{placed_in_order}
 use Rattle.note_list.specs.Pairing.{IsPlayed}
 use Rattle.rhythm_base.proofs.Members.{Among, Pairwise, pairs_from, pairs_weaken}
 use Rattle.rhythm_base.proofs.OrderedLists.{all_head, all_tail}
-use Rattle.rhythm_base.proofs.PairedLists.{each_append}
+use Rattle.rhythm_base.proofs.PairedLists.{each_append, each_length}
 use Rattle.rhythm_base.specs.Lists.{AreInOrder, Each}
 use Rattle.rhythm_base.specs.Performance.{place_of_note}
 use Rattle.rhythm_base.specs.declared.event.Tempo.{Tempo}
@@ -26,11 +26,6 @@ use Rattle.performance_prepare.proofs.Strumming.{AreApart, Before, IsRun, J, Nex
 pub each_mapped : {X Y : Type 0} (R : X → Y → Type 0) (f : X → Y) (xs : List X) → ((x : X) → Among x xs → R x (f x)) → Each R xs (map f xs)
 each_mapped R f [] h = refl
 each_mapped R f (x ∷ xs) h = (h x (inl refl), each_mapped R f xs (λ y am. h y (inr am)))
-
-pub each_long : {X Y : Type 0} (R : X → Y → Type 0) (xs : List X) (ys : List Y) → Each R xs ys → length ys ≡ length xs
-each_long R [] ys h = ap length h
-each_long R (x ∷ xs) [] h = absurd h
-each_long R (x ∷ xs) (y ∷ ys) h = let rest = each_long R xs ys h.1 in omega (arith, rest)
 
 pub all_each : {X Y : Type 0} (R : X → Y → Type 0) (P : X → Type 0) (Q : Y → Type 0) (xs : List X) (ys : List Y)
     → ((x : X) (y : Y) → P x → R x y → Q y) → Each R xs ys → All P xs → All Q ys
@@ -103,7 +98,7 @@ module _ (within : ℕ) (t : Take) (formed : IsTakeFormed t) where
   strum_formed =
       let moved = order_permuted Struck in
       let long = length_permutation Struck (in_order Struck) moved in
-      let many = each_long IsStruck t.notes Struck take_each in
+      let many = each_length IsStruck t.notes Struck take_each in
       record {
         division_low = formed.division_low;
         division_high = formed.division_high;

@@ -185,7 +185,7 @@ in_file_end before now number (stop.Read kind.Script) end own = absurd (none_som
 in_file_end before now number stop.Write end own = absurd (none_some own)
 in_file_end before now number stop.Memory end own = tt
 
-rose_later : (a b c : ℕ) → a ≤ b → Rose b c → Rose a c
+pub rose_later : (a b c : ℕ) → a ≤ b → Rose b c → Rose a c
 rose_later a b c le h = omega (arith, le, h)
 
 -- so does one after files that were read before

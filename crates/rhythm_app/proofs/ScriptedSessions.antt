@@ -30,7 +30,7 @@ use Rattle.rhythm_ports.specs.Files.{File}
 
 -- ---- the edits
 
-same_opened : (a b : Opened) → ◌≡◌ {A = Result Opened Refused} (Ok a) (Ok b) → a ≡ b
+pub same_opened : (a b : Opened) → ◌≡◌ {A = Result Opened Refused} (Ok a) (Ok b) → a ≡ b
 same_opened a b e = cc
 
 -- the grammar stays

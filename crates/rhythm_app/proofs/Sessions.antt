@@ -21,6 +21,7 @@ use Rattle.rhythm_base.specs.Performance.{Performance}
 use Rattle.rhythm_base.specs.declared.edit_fault.EditFault.{EditFault}
 use Rattle.rhythm_ports.specs.Files.{File}
 use Rattle.smf_reader.specs.Played.{Smf}
+use Rattle.kern_writer.proofs.ReadBars.{on_ok}
 
 -- ---- stops
 
@@ -269,7 +270,3 @@ writing_inputs L A B N R (stop.Unprepared e) end all some = absurd end
 writing_inputs L A B N R (stop.NoDerivation m n) end all some = absurd end
 writing_inputs L A B N R (stop.Read k) end all some = absurd end
 writing_inputs L A B N R stop.Write end all some = absurd end
-
-pub always : {T E P : Type 0} (r : Result T E) → P → OnOk r P
-always (Ok x) p = p
-always (Err e) p = tt

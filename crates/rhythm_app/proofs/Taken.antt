@@ -9,6 +9,7 @@ use Rattle.rhythm_app.specs.Ends.{AppendsPart, OfSink, Reports, Writes}
 use Rattle.rhythm_app.specs.Stops.{joined_words}
 use Rattle.rhythm_app.specs.Parts.{part_text, part_texts}
 use Rattle.rhythm_app.specs.declared.line.Part.{Part}
+use Rattle.rhythm_app.proofs.CountedFiles.{rose_later}
 
 pub AppendsPart-first : (a b : Option (List ℕ)) (t u : List ℕ) → AppendsPart a b t → AppendsPart a b (t ++ u)
 AppendsPart-first a b t u p =
@@ -42,10 +43,6 @@ parts_cut a b c ps i d h front next =
     let cut = AppendsPart-more a b c (joined_words (part_texts (take i ps))) (part_text (get_or ps i d) ++ rest) front (AppendsPart-first b c (part_text (get_or ps i d)) rest next) in
     subst (AppendsPart a c) (sym (joined_at ps i d h)) cut
 
--- a count of faults that rose later rose
-rose_before : (a b c : ℕ) → a ≤ b → Rose b c → Rose a c
-rose_before a b c later rose = omega (arith, later, rose)
-
 module _ {S T E : Type 0} (taken : S → Option (List ℕ)) (faults : S → ℕ) where
   -- the writing of a part failed, and so that of the text
   pub writes_cut : (old mid new : S) (text : List ℕ) (r : Result T E) (e : E) → r ≡ Err e → AppendsPart (taken old) (taken new) text → faults old ≤ faults mid → Rose (faults mid) (faults new)
@@ -53,7 +50,7 @@ module _ {S T E : Type 0} (taken : S → Option (List ℕ)) (faults : S → ℕ)
   writes_cut old mid new text r e is part before rose later = subst (λ (x : Result T E). Writes taken faults old new text x) (sym is) (record {
     all = tt;
     part = part;
-    cause = record { later = omega (arith, before, later); failed = rose_before (faults old) (faults mid) (faults new) before rose };
+    cause = record { later = omega (arith, before, later); failed = rose_later (faults old) (faults mid) (faults new) before rose };
   })
 
   -- a text was written before this one
@@ -67,7 +64,7 @@ module _ {S T E : Type 0} (taken : S → Option (List ℕ)) (faults : S → ℕ)
   writes_after old mid new before text (Err e) front rises h = record {
     all = tt;
     part = AppendsPart-more (taken old) (taken mid) (taken new) before text front h.part;
-    cause = record { later = omega (arith, rises, h.cause.later); failed = rose_before (faults old) (faults mid) (faults new) rises h.cause.failed };
+    cause = record { later = omega (arith, rises, h.cause.later); failed = rose_later (faults old) (faults mid) (faults new) rises h.cause.failed };
   }
 
   -- what was written is the line

@@ -49,7 +49,7 @@ module _ {X : Type 0} (R : X → X → Type 0) where
 
 -- ---- the order of places
 
-is_less : (r : Ordering) → is_lt r ≡ true → r ≡ Less
+pub is_less : (r : Ordering) → is_lt r ≡ true → r ≡ Less
 is_less Less h = refl
 is_less Equal h = absurd (cc)
 is_less Greater h = absurd (cc)

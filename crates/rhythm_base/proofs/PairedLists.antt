@@ -1,5 +1,5 @@
 -- Lists that are related element by element.
-use Rattle.std.proofs.Common.{List, [], ◌∷◌, ◌++◌, refl, sym, subst}
+use Rattle.std.proofs.Common.{◌≡◌, suc, List, [], ◌∷◌, ◌++◌, length, refl, sym, ap, subst}
 use Rattle.rhythm_base.specs.Lists.{Each}
 
 pub each_push : {X Y : Type 0} (R : X → Y → Type 0) (xs : List X) (ys : List Y) (x : X) (y : Y) → Each R xs ys → R x y → Each R (xs ++ x ∷ []) (ys ++ y ∷ [])
@@ -12,3 +12,8 @@ pub each_append : {X Y : Type 0} (R : X → Y → Type 0) (xs us : List X) (ys v
 each_append {X} {Y} R [] us ys vs h k = subst (λ (zs : List Y). Each R us (zs ++ vs)) (sym h) k
 each_append R (x ∷ xs) us [] vs h k = absurd h
 each_append R (x ∷ xs) us (y ∷ ys) vs h k = (h.0, each_append R xs us ys vs h.1 k)
+
+pub each_length : {X Y : Type 0} (R : X → Y → Type 0) (xs : List X) (ys : List Y) → Each R xs ys → length ys ≡ length xs
+each_length R [] ys h = ap length h
+each_length R (x ∷ xs) [] h = absurd h
+each_length R (x ∷ xs) (y ∷ ys) h = ap suc (each_length R xs ys h.1)

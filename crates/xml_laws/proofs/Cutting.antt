@@ -5,6 +5,7 @@ use Rattle.std.proofs.lemmas.Bool.{and_parts}
 use Rattle.text_words.proofs.TextTests.{lacks}
 use Rattle.musicxml_writer.specs.Elements.{attribute_start, closing, element, empty_with, opening, opening_with}
 use Rattle.xml_laws.specs.Words.{XmlWord, cut_content, in_content, in_tag, words_from, xml_words}
+use Rattle.text_words.proofs.TextSplits.{false_of_not}
 
 -- neither an angle nor a newline
 abbrev pub is_content_byte : ℕ → Bool
@@ -12,10 +13,6 @@ is_content_byte b = not (b == 60) && not (b == 10)
 
 abbrev pub is_plain_content : List ℕ → Bool
 is_plain_content text = list_all is_content_byte text
-
-not_true : (b : Bool) → not b ≡ true → b ≡ false
-not_true true h = sym h
-not_true false h = refl
 
 cut_kept : (x : ℕ) (content : List ℕ) → (x == 60) ≡ false → (x == 10) ≡ false → cut_content content x ≡ in_content (content ++ x ∷ [])
 cut_kept x content angle line = rw (angle, line) refl
@@ -26,8 +23,8 @@ content_kept [] more content h = ap (λ c. words_from more (in_content c)) (sym 
 content_kept (x ∷ xs) more content h =
     let (own, rest) = and_parts (is_content_byte x) (is_plain_content xs) h in
     let (angle, line) = and_parts (not (x == 60)) (not (x == 10)) own in
-    let no_angle = not_true (x == 60) angle in
-    let no_line = not_true (x == 10) line in
+    let no_angle = false_of_not (x == 60) angle in
+    let no_line = false_of_not (x == 10) line in
     ap (words_from (xs ++ more)) (cut_kept x content no_angle no_line) ∙ content_kept xs more (content ++ x ∷ []) rest
     ∙ ap (λ c. words_from more (in_content c)) (append_assoc content (x ∷ []) xs)
 
@@ -36,7 +33,7 @@ tag_kept : (xs more content tag : List ℕ) → lacks 62 xs ≡ true
 tag_kept [] more content tag h = ap (λ t. words_from more (in_tag content t)) (sym (append-nil tag))
 tag_kept (x ∷ xs) more content tag h =
     let (own, rest) = and_parts (not (x == 62)) (lacks 62 xs) h in
-    let no_angle = not_true (x == 62) own in
+    let no_angle = false_of_not (x == 62) own in
     let first : words_from (x ∷ (xs ++ more)) (in_tag content tag)
     ≡ words_from (xs ++ more) (in_tag content (tag ++ x ∷ [])) = rw no_angle refl in
     first ∙ tag_kept xs more content (tag ++ x ∷ []) rest ∙ ap (λ t. words_from more (in_tag content t)) (append_assoc tag (x ∷ []) xs)

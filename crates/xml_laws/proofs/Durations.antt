@@ -7,7 +7,7 @@ use Rattle.rhythm_base.specs.declared.limits.TheConstants.{MOST_UNITS}
 use Rattle.durations.specs.declared.value.Recip.{Recip}
 use Rattle.durations.specs.declared.value.Recip.TheVariants.{Of, Breve, Long}
 use Rattle.durations.specs.Value.{parts, plain_grid, plain_parts, value_grid}
-use Rattle.durations.proofs.Wide.{some_product}
+use Rattle.durations.proofs.Wide.{some_parts, some_product}
 use Rattle.text_words.proofs.TextNumbers.{number_back}
 use Rattle.notation.specs.Notes.{Group, Note}
 use Rattle.notation_laws.specs.Written.{IsHalvedPart, IsWrittenGroup, IsWrittenNote}
@@ -21,11 +21,6 @@ some_grid : (r : Recip) → IsHalvedPart r → 1 ≤ plain_grid r
 some_grid (Of n) (k, few, is) = subst (λ m. 1 ≤ m) (sym is) (pow_pos k)
 some_grid Breve is = omega arith
 some_grid Long is = omega arith
-
-pub plain_some : (r : Recip) → 1 ≤ plain_parts r
-plain_some (Of n) = omega arith
-plain_some Breve = omega arith
-plain_some Long = omega arith
 
 plain_few : (r : Recip) → plain_parts r ≤ 4
 plain_few (Of n) = omega arith
@@ -71,7 +66,7 @@ module _ (r : ℕ) (units : 1 ≤ r) (few : r ≤ MOST_UNITS) (g : Group) (n : N
   shown_some : 1 ≤ shown
   unfolding spelled shown
   shown_some = some_product (parts n.value) (64 * r * g.ratio.normal)
-      (some_product (plain_parts n.value.recip) (2 * 2 ^ n.value.dots - 1) (plain_some n.value.recip)
+      (some_product (plain_parts n.value.recip) (2 * 2 ^ n.value.dots - 1) (some_parts n.value.recip)
       (dotted_some n.value.dots is.value.dots))
       (some_product (64 * r) g.ratio.normal (omega (arith, units)) group.some_normal)
 

@@ -17,7 +17,8 @@ use Rattle.notation.specs.Notes.{Group, Note}
 use Rattle.notation_laws.specs.Written.{IsHalvedPart, IsWrittenGroup, IsWrittenNote}
 use Rattle.musicxml_writer.specs.Values.{finer, part_type, type_text}
 use Rattle.xml_laws.specs.Notes.{ReadNote, is_of_value, kinds, xml_number}
-use Rattle.xml_laws.proofs.Durations.{at_most, number_read, plain_some}
+use Rattle.xml_laws.proofs.Durations.{at_most, number_read}
+use Rattle.durations.proofs.Wide.{some_parts}
 
 -- ---- types
 
@@ -154,7 +155,7 @@ module _ (r : ℕ) (units : 1 ≤ r) (few : r ≤ MOST_UNITS) (g : Group) (n : N
       ring_first n.duration (2 ^ kind.place) d a kind.factor pp ∙ ap (λ x. n.duration * (d * a) * x) kind.same
       ∙ ring_second n.duration d a (plain_grid v.recip) ∙ ap (λ x. 4 * x) is.long ∙ ring_third pp times (64 * r * g.ratio.normal) in
       let one : n.duration * (2 ^ kind.place * d * (a * kind.factor))
-      ≡ 4 * times * (64 * r * g.ratio.normal) = eq_of_mul-eq-mul_left pp (plain_some v.recip) _ _ all in
+      ≡ 4 * times * (64 * r * g.ratio.normal) = eq_of_mul-eq-mul_left pp (some_parts v.recip) _ _ all in
       let same : n.duration * (2 ^ kind.place * d * finer a v.recip) ≡ 4 * times * (4 * quarter * g.ratio.normal) =
       ap (λ f. n.duration * (2 ^ kind.place * d * f)) (kind.finer_is a) ∙ one ∙ ap (λ w. 4 * times * (w * g.ratio.normal)) (sym whole) in
       ap (is_of_value quarter (valued m g.ratio v) n.duration) kind.kind ∙ tested _ _ same
