@@ -15,6 +15,7 @@ pub mod Numerals
 pub mod OneShape
 pub mod OrderedLists
 pub mod PairedLists
+pub mod PartsInTurn
 pub mod PieceLemmas
 pub mod Positions
 pub mod RuleTrees

@@ -171,13 +171,15 @@ fn push_parts<'a>(
         × (parts.new.items ≡ parts.old.items ++ read) × (text.now ≡ texts_of_parts (shape_of_parts read) ++ rest.now)) }
     ensures err { IfErr result (λ stop. Stops (PartsText levels count) text.now stop) }
 {
-    let (shape, rest) = part(alloc, text, levels - 1)?;
-    parts.push(shape)?;
-    if count == 1 {
-        return Ok(rest);
+    let mut left = text;
+    'others: for _ in 1..count {
+        let (shape, rest) = part(alloc, left, levels - 1)?;
+        parts.push(shape)?;
+        left = byte(b' ', rest)?;
     }
-    let rest = byte(b' ', rest)?;
-    push_parts(alloc, rest, levels, count - 1, parts)
+    let (shape, rest) = part(alloc, left, levels - 1)?;
+    parts.push(shape)?;
+    Ok(rest)
 }
 
 #[cfg(test)]
