@@ -1,4 +1,5 @@
 pub mod Formed
+pub mod MovedNotes
 pub mod OnlyPlaces
 pub mod OtherBarlines
 pub mod Places

@@ -4,7 +4,7 @@ ghost use Rattle.performance_edit.specs.Changed as changed;
 ghost use Rattle.rhythm_base.specs.declared.limits.TheConstants.{LATEST_TICK};
 ghost use Rattle.rhythm_base.specs.Lists.{AreInOrder, list_with};
 ghost use Rattle.rhythm_base.specs.Performance.{place_of_note};
-ghost use Rattle.std.specs.Prelude.{◌≡◌, ◌≤◌, All, IfOk, min};
+ghost use Rattle.std.specs.Prelude.{◌≡◌, ◌≤◌, ◌<◌, ◌+◌, ◌++◌, All, IfOk, drop, length, min, take};
 ghost use Rattle.performance_edit.specs.OnlyPlaces.{IsOnlyPlace, lesser};
 ghost use Rattle.std.specs.List.{reduce};
 
@@ -135,6 +135,25 @@ fn without_note(
     }
 }
 
+/// The notes with the note of a place moved. Where no other stands between its old place and its new one, it is written over.
+fn with_other_onset(
+    alloc: Global,
+    notes: &Notes,
+    place: usize,
+    moved: Note,
+) -> Result<Notes, AllocError>
+    requires order { AreInOrder place_of_note notes.now }
+    requires place { place < length notes.now }
+    ensures { IfOk result (λ n. n ≡ list_with place_of_note moved (take place notes.now ++ drop (place + 1) notes.now)) }
+{
+    let earlier = notes.count_before(u16::from(moved.channel), moved.onset, moved.key);
+    if earlier == place || earlier.saturating_sub(1) == place {
+        return notes.with_other(alloc, place, 1, &[moved]);
+    }
+    let others = notes.with_other(alloc, place, 1, &[])?;
+    with_note(alloc, &others, moved)
+}
+
 /// The notes with another onset of one of them.
 fn with_moved(
     alloc: Global,
@@ -149,10 +168,12 @@ fn with_moved(
     requires ends { All (λ n. n.end ≤ LATEST_TICK) notes.now }
     ensures { IfOk result (λ n. n ≡ changed.with_moved channel key onset to notes.now) }
 {
-    let others = without_note(alloc, notes, channel, key, onset)?;
-    match note_at(notes, channel, key, onset) {
-        None => Ok(others),
-        Some(note) => with_note(alloc, &others, moved_to(&note, to)),
+    match place_of(notes, channel, key, onset) {
+        None => notes.shared(),
+        Some(place) => match notes.get(place) {
+            None => notes.shared(),
+            Some(note) => with_other_onset(alloc, notes, place, moved_to(&note, to)),
+        },
     }
 }
 
