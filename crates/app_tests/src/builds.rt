@@ -17,14 +17,23 @@ impl Gate for CountingGate {
     }
 }
 
-/// What is given, the call that fails, the status, and how many cells are built: those of the piece, and those that edits reach.
+/// What is given, the call that fails, the status, how many cells are built, those of the piece and those that edits
+/// reach, and how many products of tables are made: for the bars of a voice one less than there are, and for a table
+/// that comes in among them one a level at which it has a neighbour, there and back where an edit is tried.
 struct Building {
     shows: &'static str,
     given: Given<'static>,
     failing: Failing,
     status: u8,
     builds: u64,
+    products: u64,
 }
+
+/// Bars are added, a note is drawn over three of them, and a barline is moved.
+const NOTE_MADE_LONGER: &[u8] = b"addbar\naddbar\ndrop 0 60 0\nadd 0 60 0 5760\nbarline 1 2000\n";
+
+/// Bars are added, and a barline is moved past another one.
+const BARLINE_TOO_LATE: &[u8] = b"addbar\naddbar\nbarline 1 6000\naddbar\n";
 
 const BUILDINGS: &[Building] = &[
     Building {
@@ -37,6 +46,43 @@ const BUILDINGS: &[Building] = &[
         failing: NONE_FAILS,
         status: 0,
         builds: 4,
+        products: 2,
+    },
+    Building {
+        shows: "each cell of two voices is built once for a page",
+        given: Given {
+            words: &["page", "a.mid", "a.grammar"],
+            files: &[("a.mid", TWO_VOICES), ("a.grammar", USUAL)],
+            script: b"",
+        },
+        failing: NONE_FAILS,
+        status: 0,
+        builds: 4,
+        products: 2,
+    },
+    Building {
+        shows: "and for MusicXML",
+        given: Given {
+            words: &["musicxml", "a.mid", "a.grammar"],
+            files: &[("a.mid", TWO_VOICES), ("a.grammar", USUAL)],
+            script: b"",
+        },
+        failing: NONE_FAILS,
+        status: 0,
+        builds: 4,
+        products: 2,
+    },
+    Building {
+        shows: "none for the notes of a file",
+        given: Given {
+            words: &["notes", "a.mid"],
+            files: &[("a.mid", TWO_VOICES)],
+            script: b"",
+        },
+        failing: NONE_FAILS,
+        status: 0,
+        builds: 0,
+        products: 0,
     },
     Building {
         shows: "as many bars as there may be, by many workers",
@@ -48,6 +94,7 @@ const BUILDINGS: &[Building] = &[
         failing: NONE_FAILS,
         status: 0,
         builds: 4096,
+        products: 4095,
     },
     Building {
         shows: "a cell without a derivation is built nevertheless",
@@ -59,6 +106,7 @@ const BUILDINGS: &[Building] = &[
         failing: NONE_FAILS,
         status: 3,
         builds: 1,
+        products: 0,
     },
     Building {
         shows: "a note joins a chord, and no cell is built for it",
@@ -70,6 +118,7 @@ const BUILDINGS: &[Building] = &[
         failing: NONE_FAILS,
         status: 0,
         builds: 1,
+        products: 0,
     },
     Building {
         shows: "bars are added, and a note over three of them; a barline is refused, and another one moved",
@@ -81,6 +130,7 @@ const BUILDINGS: &[Building] = &[
         failing: NONE_FAILS,
         status: 0,
         builds: 9,
+        products: 13,
     },
     Building {
         shows: "a pin that leaves no derivation, one that fits, and none; rhythms of a bar, for which none is built",
@@ -92,6 +142,7 @@ const BUILDINGS: &[Building] = &[
         failing: NONE_FAILS,
         status: 0,
         builds: 4,
+        products: 0,
     },
     Building {
         shows: "edits are taken back and made again, and none is built for that",
@@ -103,6 +154,7 @@ const BUILDINGS: &[Building] = &[
         failing: NONE_FAILS,
         status: 0,
         builds: 9,
+        products: 35,
     },
     Building {
         shows: "a pin that comes back with its bar is taken away by an edit",
@@ -114,6 +166,39 @@ const BUILDINGS: &[Building] = &[
         failing: NONE_FAILS,
         status: 0,
         builds: 4,
+        products: 4,
+    },
+    Building {
+        shows: "the edits of a script file come first",
+        given: Given {
+            words: &["transcribe", "a.mid", "a.grammar", "--script", "a.script"],
+            files: &[
+                ("a.mid", WHOLE_NOTE),
+                ("a.grammar", USUAL),
+                ("a.script", NOTE_MADE_LONGER),
+            ],
+            script: b"",
+        },
+        failing: NONE_FAILS,
+        status: 0,
+        builds: 9,
+        products: 13,
+    },
+    Building {
+        shows: "up to a line of it that is refused",
+        given: Given {
+            words: &["page", "a.mid", "a.grammar", "--script", "a.script"],
+            files: &[
+                ("a.mid", WHOLE_NOTE),
+                ("a.grammar", USUAL),
+                ("a.script", BARLINE_TOO_LATE),
+            ],
+            script: b"",
+        },
+        failing: NONE_FAILS,
+        status: 2,
+        builds: 3,
+        products: 2,
     },
     Building {
         shows: "those that each tick reaches, and once more those that the best one does",
@@ -125,6 +210,7 @@ const BUILDINGS: &[Building] = &[
         failing: NONE_FAILS,
         status: 0,
         builds: 8,
+        products: 13,
     },
     Building {
         shows: "ticks at which no derivation fits",
@@ -136,6 +222,7 @@ const BUILDINGS: &[Building] = &[
         failing: NONE_FAILS,
         status: 9,
         builds: 4,
+        products: 0,
     },
     Building {
         shows: "too many ticks, for which no file is read",
@@ -147,6 +234,7 @@ const BUILDINGS: &[Building] = &[
         failing: NONE_FAILS,
         status: 4,
         builds: 0,
+        products: 0,
     },
     Building {
         shows: "those of the search for barlines, and those that the lines of its script reach",
@@ -158,6 +246,7 @@ const BUILDINGS: &[Building] = &[
         failing: NONE_FAILS,
         status: 0,
         builds: 335,
+        products: 19,
     },
     Building {
         shows: "those of each file that weights are learned from",
@@ -173,6 +262,7 @@ const BUILDINGS: &[Building] = &[
         failing: NONE_FAILS,
         status: 0,
         builds: 8,
+        products: 4,
     },
     Building {
         shows: "those of the files before one without a derivation, and its own",
@@ -184,6 +274,7 @@ const BUILDINGS: &[Building] = &[
         failing: NONE_FAILS,
         status: 3,
         builds: 1,
+        products: 0,
     },
     Building {
         shows: "a drill without a derivation builds those of its piece",
@@ -195,6 +286,19 @@ const BUILDINGS: &[Building] = &[
         failing: NONE_FAILS,
         status: 3,
         builds: 1000,
+        products: 998,
+    },
+    Building {
+        shows: "a drill builds those of its piece and those that its edits reach",
+        given: Given {
+            words: &["drill", "7", "a.grammar"],
+            files: &[("a.grammar", USUAL)],
+            script: b"",
+        },
+        failing: NONE_FAILS,
+        status: 0,
+        builds: 1070,
+        products: 1628,
     },
     Building {
         shows: "no edit is made after a reply that failed",
@@ -209,11 +313,12 @@ const BUILDINGS: &[Building] = &[
         },
         status: 6,
         builds: 2,
+        products: 1,
     },
 ];
 
 #[test]
-fn so_many_cells_are_built(rt: HostRuntime) -> Result<(), Fail> {
+fn so_many_cells_are_built_and_multiplied(rt: HostRuntime) -> Result<(), Fail> {
     for building in BUILDINGS {
         let gate = CountingGate {
             passed: AtomicU64::new(0),
@@ -228,8 +333,13 @@ fn so_many_cells_are_built(rt: HostRuntime) -> Result<(), Fail> {
         )?;
         let passed = gate.passed.load(Ordering::Relaxed);
         assert_eq!(rt;
-            (end.status, end.builds, passed),
-            (building.status, building.builds, building.builds),
+            (end.status, end.builds, passed, end.products),
+            (
+                building.status,
+                building.builds,
+                building.builds,
+                building.products
+            ),
             "{}",
             building.shows
         );

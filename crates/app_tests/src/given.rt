@@ -51,11 +51,12 @@ pub struct Ending<'a> {
     pub err: &'a [u8],
 }
 
-/// How a run ended, how many tables it built, and what out and err took.
+/// How a run ended, how many tables it built, how many products of tables it made, and what out and err took.
 #[derive(Drop)]
 pub struct Taken {
     pub status: u8,
     pub builds: u64,
+    pub products: u64,
     pub out: MemSink,
     pub err: MemSink,
 }
@@ -114,6 +115,7 @@ pub fn end_of<R: Threads + Sync, G: Gate + Sync>(
     Ok(Taken {
         status: ran.status,
         builds: ran.builds,
+        products: ran.products,
         out,
         err,
     })

@@ -23,11 +23,12 @@ pub fn words_of(alloc: Global, words: &[&str]) -> Result<Words, AllocError> {
     Ok(list)
 }
 
-/// How a run ended, and how many tables it built.
+/// How a run ended, how many tables it built, and how many products of tables it made.
 #[derive(Clone, Copy)]
 pub struct Ran {
     pub status: u8,
     pub builds: u64,
+    pub products: u64,
 }
 
 /// What a run reads from and writes to.
@@ -95,6 +96,7 @@ fn run_with<
     Ran {
         status,
         builds: lent.builds.count(),
+        products: lent.products.count(),
     }
 }
 
