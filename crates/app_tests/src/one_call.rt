@@ -1,11 +1,12 @@
 ghost use Rattle.std.specs.Prelude.{None};
 
-use crate::files::{EARLY_NOTE, FOUR_QUARTERS, WHOLE_NOTE};
+use crate::files::{EARLY_NOTE, FOUR_QUARTERS, TWO_VOICES_SCORE, WHOLE_NOTE};
 use crate::given::{Given, shelf_of};
 use crate::grammars::USUAL;
 use crate::running::{Ports, run_over, words_of};
 use crate::talks::{
-    CHORD_COMES_AND_GOES, NOTE_JOINS_A_CHORD, NOTE_OVER_THREE_BARS, RHYTHMS_OF_A_BAR, script_of,
+    BAR_COMES_AND_GOES, CHORD_COMES_AND_GOES, NOTE_JOINS_A_CHORD, NOTE_OVER_THREE_BARS,
+    RHYTHMS_OF_A_BAR, script_of,
 };
 use rhythm_ports::{Failed, MemSink, MemSource, OpenGate, Sink};
 use std::alloc::{AllocError, Global};
@@ -72,23 +73,37 @@ fn a_reply_is_written_at_once(rt: HostRuntime) -> Result<(), Fail> {
 /// Commands that write a text.
 const WRITING: &[&[&str]] = &[
     &["drill", "7", "a.grammar"],
+    &["transcribe", "a.mid", "a.grammar"],
+    &["transcribe", "a.mid", "a.grammar", "--script", "a.script"],
+    &["page", "a.mid", "a.grammar"],
+    &["musicxml", "a.mid", "a.grammar"],
     &["lily", "a.mid", "a.grammar"],
     &["render", "a.mid", "a.grammar"],
     &["fit", "a.mid", "a.grammar", "1", "1920", "1920", "1"],
     &["follow", "a.mid", "a.grammar"],
     &["learn", "17", "a.grammar", "a.mid", "a.mid"],
     &["notes", "a.mid"],
+    &["events", "a.krn"],
+    &["generate", "7", "1"],
+    &["--help"],
+    &["--version"],
 ];
 
 #[test]
 fn a_text_is_written_at_once(rt: HostRuntime) -> Result<(), Fail> {
     for words in WRITING {
+        let command = words.first().copied().unwrap_or("");
         let given = Given {
             words: *words,
-            files: &[("a.mid", EARLY_NOTE), ("a.grammar", USUAL)],
+            files: &[
+                ("a.mid", EARLY_NOTE),
+                ("a.grammar", USUAL),
+                ("a.script", BAR_COMES_AND_GOES),
+                ("a.krn", TWO_VOICES_SCORE),
+            ],
             script: b"",
         };
-        assert!(rt; calls_out(&rt, rt.alloc(), &given, 1)?);
+        assert!(rt; calls_out(&rt, rt.alloc(), &given, 1)?, "{command}");
     }
     Ok(())
 }

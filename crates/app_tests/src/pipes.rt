@@ -4,6 +4,7 @@ use crate::files::{FOUR_QUARTERS, TWO_VOICES_SCORE};
 use crate::given::shelf_of;
 use crate::grammars::USUAL;
 use crate::running::{Ports, run_over, words_of};
+use crate::talks::BAR_COMES_AND_GOES;
 use rhythm_base::Words;
 use rhythm_ports::{Failed, MemShelf, MemSink, MemSource, OpenGate, Shelf};
 use std::alloc::{AllocError, Global};
@@ -83,6 +84,7 @@ fn opens<R: Threads + Sync>(
         ("a.mid", FOUR_QUARTERS),
         ("a.grammar", USUAL),
         ("a.krn", TWO_VOICES_SCORE),
+        ("a.script", BAR_COMES_AND_GOES),
     ];
     let mut shelf = Pipes {
         files: shelf_of(alloc, 10, Vec::new(alloc), &files)?,
@@ -126,6 +128,38 @@ const OPENS: &[(&[&str], u8, &[&str])] = &[
         0,
         &["a.mid", "a.grammar"],
     ),
+    (&["page", "a.mid", "a.grammar"], 0, &["a.mid", "a.grammar"]),
+    (
+        &["musicxml", "a.mid", "a.grammar"],
+        0,
+        &["a.mid", "a.grammar"],
+    ),
+    (
+        &["transcribe", "a.mid", "a.grammar", "--script", "a.script"],
+        0,
+        &["a.mid", "a.grammar", "a.script"],
+    ),
+    (
+        &["studio", "--script", "a.script", "a.mid", "a.grammar"],
+        0,
+        &["a.mid", "a.grammar", "a.script"],
+    ),
+    (
+        &["follow", "a.mid", "a.grammar", "--script", "a.krn"],
+        2,
+        &["a.mid", "a.grammar", "a.krn"],
+    ),
+    (
+        &["page", "a.mid", "a.grammar", "--script", "b.script"],
+        5,
+        &["a.mid", "a.grammar", "b.script"],
+    ),
+    (
+        &["page", "a.mid", "a.krn", "--script", "a.script"],
+        2,
+        &["a.mid", "a.krn"],
+    ),
+    (&["notes", "a.mid", "--script", "a.script"], 1, &[]),
     (
         &["fit", "a.mid", "a.grammar", "1", "1920", "1920", "1"],
         0,

@@ -64,6 +64,9 @@ pub const CHORD_COMES_AND_GOES: &[Exchange] = &[
     (b"redo\n", b"refused NoStep\n"),
 ];
 
+/// A script file that leaves a piece as it was.
+pub const BAR_COMES_AND_GOES: &[u8] = b"addbar\ndropbar\n";
+
 /// The lines of the talk, one after another.
 pub fn script_of(alloc: Global, talk: &[Exchange]) -> Result<Vec<u8>, AllocError> {
     let mut script = Vec::new(alloc);

@@ -62,6 +62,9 @@ const SHORT: u32 = 5_000_000;
 /// The same where they wait at many cells.
 const BRIEF: u32 = 100_000;
 
+/// And where they wait at thousands of cells.
+const BRIEFEST: u32 = 10_000;
+
 /// What is given, how many cells pass before any worker is held, how many workers are to meet, and for how many turns each waits.
 struct Met {
     shows: &'static str,
@@ -100,6 +103,45 @@ const MEETINGS: &[Met] = &[
         script: b"",
         free: 0,
         wanted: 16,
+        turns: LONG,
+    },
+    Met {
+        shows: "two workers for the sixteen cells of a page",
+        words: &["page", "--workers", "2", "a.mid", "a.grammar"],
+        files: &[("a.mid", SIXTEEN_BARS), ("a.grammar", WHOLE)],
+        script: b"",
+        free: 0,
+        wanted: 2,
+        turns: LONG,
+    },
+    Met {
+        shows: "and for those of MusicXML",
+        words: &["musicxml", "--workers", "2", "a.mid", "a.grammar"],
+        files: &[("a.mid", SIXTEEN_BARS), ("a.grammar", WHOLE)],
+        script: b"",
+        free: 0,
+        wanted: 2,
+        turns: LONG,
+    },
+    Met {
+        shows: "an edit of a script file, before which 128 cells are built",
+        words: &[
+            "lily",
+            "--workers",
+            "3",
+            "a.mid",
+            "a.grammar",
+            "--script",
+            "a.script",
+        ],
+        files: &[
+            ("a.mid", MANY_BARS),
+            ("a.grammar", WHOLE),
+            ("a.script", b"drop 0 60 0\n"),
+        ],
+        script: b"",
+        free: 128,
+        wanted: 3,
         turns: LONG,
     },
     Met {
@@ -219,6 +261,27 @@ const PARTINGS: &[Met] = &[
         turns: BRIEF,
     },
     Met {
+        shows: "nor for one of a script file",
+        words: &[
+            "lily",
+            "--workers",
+            "2",
+            "a.mid",
+            "a.grammar",
+            "--script",
+            "a.script",
+        ],
+        files: &[
+            ("a.mid", MANY_BARS),
+            ("a.grammar", WHOLE),
+            ("a.script", b"drop 0 60 0\n"),
+        ],
+        script: b"",
+        free: 128,
+        wanted: 3,
+        turns: BRIEF,
+    },
+    Met {
         shows: "one worker is too few for a fit",
         words: &[
             "fit",
@@ -238,13 +301,13 @@ const PARTINGS: &[Met] = &[
         turns: BRIEF,
     },
     Met {
-        shows: "two workers are too few for three",
+        shows: "two workers are too few for bars between other barlines",
         words: &["follow", "--workers", "2", "a.mid", "a.grammar"],
         files: &[("a.mid", EIGHT_VOICES), ("a.grammar", WHOLE)],
         script: b"",
         free: 16,
         wanted: 3,
-        turns: BRIEF,
+        turns: BRIEFEST,
     },
     Met {
         shows: "the edits of a drill, which reach a few cells each",
