@@ -17,9 +17,9 @@ pub record IsTreePlace (bar : Search) (tree : TreeAt) : Type 0 where
   pub place : IsSeatPlace bar tree.seat tree.place
   pub from : tree.from < 5
 
--- one of the slots says so
+-- it is one of them
 abbrev pub HasKept : Texts → Text → Type 0
-HasKept texts t = (i : ℕ) × (slice_get texts.slots.items i ≡ Some (Some t))
+HasKept texts t = (i : ℕ) × (slice_get texts.texts.items i ≡ Some t)
 
 abbrev pub HasKeptNone : Texts → Type 0
 HasKeptNone texts = (t : Text) → HasKept texts t → ⊥

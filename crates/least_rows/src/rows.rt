@@ -505,7 +505,7 @@ impl Rows {
 
     /// Offers the trees with this cut on top that go these ways up to a part.
     #[cycle(rows)]
-    #[inline(never)]
+    #[inline(always)]
     fn offer_rest(
         &mut self,
         search: &Search<'_>,

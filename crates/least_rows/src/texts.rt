@@ -17,7 +17,10 @@ pub struct Text {
 /// is asked for is passed over.
 #[derive(Drop)]
 pub struct Texts {
-    pub slots: Vec<Option<Text>>,
+    /// By the slot: the number of the list that was kept for it last. It may be one of a bar before: the list itself tells.
+    pub slots: Vec<u32>,
+    /// The lists that were kept in this bar, in the order in which they were written.
+    pub texts: Vec<Text>,
 }
 
 impl Texts {
@@ -25,6 +28,7 @@ impl Texts {
     pub fn new(alloc: Global) -> Texts {
         Texts {
             slots: Vec::new(alloc),
+            texts: Vec::new(alloc),
         }
     }
 
@@ -32,8 +36,11 @@ impl Texts {
     pub fn clear(&mut self, count: usize) -> Result<(), AllocError>
         ensures { OnOk result (HasKeptNone self.new) }
     {
-        self.slots.clear();
-        self.slots.resize(count, None)
+        self.texts.clear();
+        if self.slots.len() < count {
+            self.slots.resize(count, 0)?;
+        }
+        Ok(())
     }
 
     /// Where the list of a tree stands, if its slot has it.
@@ -41,7 +48,8 @@ impl Texts {
     pub fn find(&self, slot: usize, tree: TreeAt) -> Option<Text>
         ensures { IfSome result (λ t. HasKept self.now t × (t.tree ≡ tree)) }
     {
-        let text = (*self.slots.get(slot)?)?;
+        let number = *self.slots.get(slot)? as usize;
+        let text = *self.texts.get(number)?;
         let own = text.tree;
         if own.seat == tree.seat
             && own.place == tree.place
@@ -56,14 +64,24 @@ impl Texts {
 
     /// Keeps where the list of a tree stands, where the slot is within and the places are small enough.
     #[inline(always)]
-    pub fn keep(&mut self, slot: usize, tree: TreeAt, first: usize, end: usize)
-        ensures { KeepsText self.old self.new tree first end }
+    pub fn keep(
+        &mut self,
+        slot: usize,
+        tree: TreeAt,
+        first: usize,
+        end: usize,
+    ) -> Result<(), AllocError>
+        ensures { OnOk result (KeepsText self.old self.new tree first end) }
     {
-        if let Some(text) = text_at(tree, first, end) {
-            if let Some(cell) = self.slots.get_mut(slot) {
-                *cell = Some(text);
-            }
+        let Some(text) = text_at(tree, first, end) else {
+            return Ok(());
+        };
+        let number = u32::try_from(self.texts.len()).ok().ok_or(AllocError)?;
+        self.texts.push(text)?;
+        if let Some(cell) = self.slots.get_mut(slot) {
+            *cell = number;
         }
+        Ok(())
     }
 }
 

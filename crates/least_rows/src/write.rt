@@ -54,6 +54,7 @@ fn entry_in(row: &[Entry], to: u8) -> Option<Found>
 
 /// Writes the rules of a least tree. Those of a tree that was written before are copied.
 #[cycle(lists)]
+#[inline(always)]
 pub fn write(
     rows: &mut Rows,
     search: &Search<'_>,
@@ -112,12 +113,13 @@ pub fn write(
     };
     write_parts(rows, search, parts, leg, texts, list)?;
     let end = list.as_slice().len();
-    texts.keep(slot, tree, first, end);
+    texts.keep(slot, tree, first, end)?;
     Ok(())
 }
 
 /// Writes the rules of the least trees of the parts of a cut along a way, from left to right.
 #[cycle(lists)]
+#[inline(never)]
 fn write_parts(
     rows: &mut Rows,
     search: &Search<'_>,

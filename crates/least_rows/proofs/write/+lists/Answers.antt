@@ -193,7 +193,7 @@ write-returns-clause-texts t c =
     let rules = c.write_parts.new.list.items in
     let pushed : c.push-2.new.self.items ≡ before ++ c.in-Some-entry_in.found.entry.rule ∷ [] = c.in_ok-push-2.ensures.items in
     let grown = longer before c.push-2.new.self.items rules c.in-Some-entry_in.found.entry.rule pushed c.in_ok-write_parts.ensures.grows in
-    texts-kept c.args.search.now before rules (length c.as_slice-first.result.now) (length c.as_slice-end.result.now) c.args.tree c.write_parts.new.texts c.keep.new.self (ap length c.as_slice-first.ensures.value) (ap length c.as_slice-end.ensures.value) grown (write-returns-clause-list t c) c.in_ok-write_parts.ensures.texts c.keep.ensures
+    texts-kept c.args.search.now before rules (length c.as_slice-first.result.now) (length c.as_slice-end.result.now) c.args.tree c.write_parts.new.texts c.keep.new.self (ap length c.as_slice-first.ensures.value) (ap length c.as_slice-end.ensures.value) grown (write-returns-clause-list t c) c.in_ok-write_parts.ensures.texts c.in_ok-keep.ensures
 
 pub write-returns-clause-grows : goal.write-returns-clause-grows
 write-returns-clause-grows t c =
