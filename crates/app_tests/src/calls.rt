@@ -5,8 +5,8 @@ use crate::given::{Ending, Failing, Given, NONE_FAILS, Port, Taken, end_of};
 use crate::grammars::{QUARTERS, QUARTERS_OF_RESTS, USUAL, WHOLE};
 use crate::running::{Ports, run_over, words_of};
 use crate::talks::{
-    CHORD_COMES_AND_GOES, Exchange, NOTE_JOINS_A_CHORD, NOTE_OVER_THREE_BARS, RHYTHMS_OF_A_BAR,
-    lines_within, replies_to, script_of,
+    BAR_COMES_AND_GOES, CHORD_COMES_AND_GOES, Exchange, NOTE_JOINS_A_CHORD, NOTE_OVER_THREE_BARS,
+    RHYTHMS_OF_A_BAR, lines_within, replies_to, script_of,
 };
 use rhythm_ports::{OpenGate, SureShelf, SureSink, SureSource};
 use std::alloc::{AllocError, Global};
@@ -71,6 +71,38 @@ const USES: &[Use] = &[
         fewest: 1,
     },
     Use {
+        words: &["page", "a.mid", "a.grammar"],
+        files: &[("a.mid", FOUR_QUARTERS), ("a.grammar", QUARTERS)],
+        talk: &[],
+        fewest: 20,
+    },
+    Use {
+        words: &["musicxml", "a.mid", "a.grammar"],
+        files: &[("a.mid", FOUR_QUARTERS), ("a.grammar", QUARTERS)],
+        talk: &[],
+        fewest: 20,
+    },
+    Use {
+        words: &["lily", "a.mid", "a.grammar", "--script", "a.script"],
+        files: &[
+            ("a.mid", FOUR_QUARTERS),
+            ("a.grammar", USUAL),
+            ("a.script", BAR_COMES_AND_GOES),
+        ],
+        talk: &[],
+        fewest: 1,
+    },
+    Use {
+        words: &["studio", "a.mid", "a.grammar", "--script", "a.script"],
+        files: &[
+            ("a.mid", FOUR_QUARTERS),
+            ("a.grammar", USUAL),
+            ("a.script", BAR_COMES_AND_GOES),
+        ],
+        talk: CHORD_COMES_AND_GOES,
+        fewest: 20,
+    },
+    Use {
         words: &["fit", "a.mid", "a.grammar", "1", "1880", "1920", "20"],
         files: &[("a.mid", EARLY_NOTE), ("a.grammar", USUAL)],
         talk: &[],
@@ -120,7 +152,7 @@ const USES: &[Use] = &[
         words: &["--help"],
         files: &[],
         talk: &[],
-        fewest: 1,
+        fewest: 20,
     },
 ];
 
@@ -156,6 +188,7 @@ fn shelf_line(used: &Use, most: usize, call: u64) -> Option<&'static [u8]> {
                     "a.grammar" => b"read grammar\n",
                     "1.mid" => b"file 1 read midi\n",
                     "2.mid" => b"file 2 read midi\n",
+                    "a.script" => b"read script-file\n",
                     _ => b"read kern\n",
                 });
             }
@@ -359,6 +392,22 @@ const STOPS: &[(Given<'static>, Ending<'static>)] = &[
             status: 9,
             out: b"",
             err: b"fit NoCandidate\n",
+        },
+    ),
+    (
+        Given {
+            words: &["page", "a.mid", "a.grammar", "--script", "a.script"],
+            files: &[
+                ("a.mid", FOUR_QUARTERS),
+                ("a.grammar", USUAL),
+                ("a.script", b"addbar\ndrop 0 61 0\n"),
+            ],
+            script: b"",
+        },
+        Ending {
+            status: 2,
+            out: b"",
+            err: b"script 2 NoNote\n",
         },
     ),
     (
