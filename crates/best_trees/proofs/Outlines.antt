@@ -1,12 +1,12 @@
 -- Outlines under numbers: what is added after changes none of those before.
-use Rattle.std.proofs.Common.{◌≡◌, ℕ, suc, ◌-◌, ◌+◌, ◌<◌, ◌≤◌, nat_lt, true, false, inl, inr, List, [], ◌∷◌, ◌++◌, length, take, drop, get_or, refl, sym, ap, ◌∙◌, subst, arith, append_assoc, append-nil}
+use Rattle.std.proofs.Common.{◌≡◌, ℕ, zero, suc, ◌-◌, ◌+◌, ◌<◌, ◌≤◌, nat_lt, true, false, inl, inr, List, [], ◌∷◌, ◌++◌, length, take, drop, get_or, refl, sym, ap, ◌∙◌, subst, arith, append_assoc, append-nil}
 use Rattle.std.specs.Prelude.{Option, Some, None, if◌then◌else◌}
 use Rattle.std.proofs.lemmas.Bool.{cases_lt}
 use Rattle.std.proofs.lemmas.Bool.Decides.{nat_tests}
-use Rattle.std.proofs.lemmas.List.{length-append, get_or_append_left, get_or_at, get_or_past, length_push, length-take-le, take-append-drop, drop_more, take_rest}
-use Rattle.rhythm_base.specs.Shape.{Shape, end, shape_of_parts, part}
+use Rattle.std.proofs.lemmas.List.{length-append, get_or_append_left, get_or_at, get_or_past, length_push, length-take-le, take-append-drop, drop_more}
+use Rattle.rhythm_base.specs.Shape.{Shape, cuts, end, shape_of_parts, part}
 use Rattle.best_trees.specs.declared.pins.PinPart.{PinPart}
-use Rattle.best_trees.specs.Pins.{AreCounted, GrowsOutlines, HasOutline, leaf_count, outline_at, outline_before, outlines, part_outline}
+use Rattle.best_trees.specs.Pins.{AreCounted, GrowsOutlines, HasOutline, HasPart, leaf_count, outline_at, outline_before, outlines, part_outline}
 
 pub Grows-same : (os : List Shape) → GrowsOutlines os os
 Grows-same os = ([], sym (append-nil os))
@@ -90,10 +90,26 @@ module _ (xs : List PinPart) (i : ℕ) (d : PinPart) (low : i < length xs) where
 pub outline_none : (xs : List PinPart) (i : ℕ) → length xs ≤ i → outline_at (outlines [] xs) (Some i) ≡ end
 outline_none xs i h = let long = outlines-long xs in get_or_past (outlines [] xs) i end (omega (arith, long))
 
--- the first of shapes side by side, and the others
-pub shapes-split : (xs : List Shape) (x : Shape) → 1 ≤ length xs → x ≡ get_or xs 0 x → part x (shape_of_parts (take (length xs - 1) (drop 1 xs))) ≡ shape_of_parts xs
-shapes-split [] x low is = absurd (omega arith)
-shapes-split (y ∷ ys) x low is = λ i. part (is i) (shape_of_parts (take_rest (y ∷ ys) 1 i))
+-- one of shapes side by side, with those after it
+pub shapes-from : (xs : List Shape) (i : ℕ) (x : Shape) → i < length xs → part (get_or xs i x) (shape_of_parts (drop (i + 1) xs)) ≡ shape_of_parts (drop i xs)
+shapes-from xs i x low = ap shape_of_parts (sym (drop_more xs i x low))
+
+-- the outline of one of shapes side by side, and of those after it
+pub kept_from : (os ps qs xs : List Shape) (place : ℕ) (x : Shape) (parts others : Option ℕ) (n : ℕ) → 1 ≤ place → place ≤ length xs → GrowsOutlines os ps
+    → HasOutline ps parts (get_or xs (place - 1) x) → HasPart ps qs parts others n → HasOutline os others (shape_of_parts (drop place xs))
+    → HasOutline qs (Some n) (shape_of_parts (drop (place - 1) xs))
+kept_from os ps qs xs place x parts others n some within grown own kept after =
+    let next : place - 1 + 1 ≡ place = omega (arith, some) in
+    let whole : part (get_or xs (place - 1) x) (shape_of_parts (drop place xs)) ≡ shape_of_parts (drop (place - 1) xs)
+    = ap (λ k. part (get_or xs (place - 1) x) (shape_of_parts (drop k xs))) (sym next) ∙ shapes-from xs (place - 1) x (omega (arith, some, within)) in
+    subst (HasOutline qs (Some n)) whole
+    (kept (get_or xs (place - 1) x) (shape_of_parts (drop place xs)) own (HasOutline-more os ps others (shape_of_parts (drop place xs)) grown after))
+
+-- it has fewer parts than all have
+pub shape-falls : (xs : List Shape) (i : ℕ) (x : Shape) → i < length xs → cuts (get_or xs i x) < cuts (shape_of_parts xs)
+shape-falls [] i x low = absurd (omega (arith, low))
+shape-falls (y ∷ ys) zero x low = omega arith
+shape-falls (y ∷ ys) (suc i) x low = let rest = shape-falls ys i x (omega (arith, low)) in omega (arith, rest)
 
 -- ---- the leaves of parts
 

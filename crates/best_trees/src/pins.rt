@@ -146,15 +146,12 @@ impl Pins {
         ensures more { OnOk result (GrowsOutlines self.old self.new) }
         ensures outline { IfOk result (λ n. HasOutline self.new n (shape_of_parts shapes.now)) }
     {
-        match shapes {
-            [] => Ok(None),
-            [shape, shapes @ ..] => {
-                let parts = self.keep_all(shape.parts())?;
-                let others = self.keep_all(shapes)?;
-                let number = self.keep(parts, others)?;
-                Ok(Some(number))
-            }
+        let mut number = None;
+        'shapes: for place in (0..shapes.len()).rev() {
+            let parts = self.keep_all(shapes[place].parts())?;
+            number = Some(self.keep(parts, number)?);
         }
+        Ok(number)
     }
 
     /// What is demanded of the first tree alone, as what is demanded below it, and of the trees after it; none where no
