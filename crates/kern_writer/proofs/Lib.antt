@@ -13,4 +13,4 @@ mod WorkedRecords
 mod WorkedScore
 mod WorkedTokens
 pub mod ReadBars
-mod OneWritten
+pub mod OneWritten
