@@ -299,7 +299,7 @@ fn writes_a_part<R: Threads + Sync>(
 #[test]
 fn each_call_of_the_shelf_may_fail(rt: HostRuntime) -> Result<(), Fail> {
     for used in USES {
-        let command = used.words[0];
+        let command = used.words.first().copied().unwrap_or("");
         for most in [1, 2, 3, 20, 4096] {
             let holds = most < used.fewest || names_each_file(&rt, rt.alloc(), most, used)?;
             assert!(rt; holds, "{command} by {most}");
@@ -311,7 +311,7 @@ fn each_call_of_the_shelf_may_fail(rt: HostRuntime) -> Result<(), Fail> {
 #[test]
 fn each_call_of_the_script_may_fail(rt: HostRuntime) -> Result<(), Fail> {
     for used in USES {
-        let command = used.words[0];
+        let command = used.words.first().copied().unwrap_or("");
         for most in [1, 2, 3, 20, 4096] {
             let holds = most < used.fewest || answers_each_line(&rt, rt.alloc(), most, used)?;
             assert!(rt; holds, "{command} by {most}");
@@ -323,7 +323,7 @@ fn each_call_of_the_script_may_fail(rt: HostRuntime) -> Result<(), Fail> {
 #[test]
 fn each_call_of_out_may_fail(rt: HostRuntime) -> Result<(), Fail> {
     for used in USES {
-        let command = used.words[0];
+        let command = used.words.first().copied().unwrap_or("");
         for most in [1, 2, 3, 20, 4096] {
             let holds = most < used.fewest || writes_a_part(&rt, rt.alloc(), most, used)?;
             assert!(rt; holds, "{command} by {most}");
