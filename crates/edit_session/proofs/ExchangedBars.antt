@@ -1,12 +1,12 @@
--- A voice is exchanged one bar further, and the tables are counted.
-use Rattle.std.proofs.Common.{◌≡◌, ℕ, suc, ◌+◌, ◌-◌, ◌<◌, ◌≤◌, ◌↔◌, List, [], ◌∷◌, ◌++◌, length, get_or, set, max, sym, ap, ◌∙◌, subst, inl, inr, arith}
+-- A voice is exchanged one bar further, or up to the next table, and the tables are counted.
+use Rattle.std.proofs.Common.{◌≡◌, ℕ, zero, suc, ◌+◌, ◌-◌, ◌<◌, ◌≤◌, ◌↔◌, List, [], ◌∷◌, ◌++◌, length, get_or, set, max, sym, ap, ◌∙◌, subst, inl, inr, arith}
 use Rattle.std.specs.Prelude.{All, Contains, reverse}
 use Rattle.std.proofs.lemmas.List.Elements.{All-nil, All-push}
 use Rattle.rhythm_base.proofs.OrderedLists.{all_cons, all_head, all_tail}
 use Rattle.std.proofs.lemmas.Bool.{cases_lt}
 use Rattle.std.proofs.lemmas.List.{length-append, length-set, reverse-append, reverse-reverse, same_from_push}
 use Rattle.rhythm_base.specs.BarTables.{BarTable}
-use Rattle.edit_session.specs.Exchange.{Change, IsChange, IsLastOf, IsVoiceUpTo, table_out, tables_below}
+use Rattle.edit_session.specs.Exchange.{Change, IsChange, IsLastOf, IsNextBar, IsVoiceUpTo, table_out, tables_below}
 use Rattle.edit_session.specs.Prepared.{CellTable, cell_of}
 use Rattle.edit_session.proofs.Exchanges.{pushed, stayed, swapped}
 use Rattle.edit_session.proofs.TablesBelow.{below_push, not_below_push}
@@ -16,6 +16,16 @@ pub cell_is : (coming rest : List CellTable) (next : CellTable) (channel bar : �
 cell_is coming rest next channel bar split (t, others, e, cell) =
     let same = same_from_push rest others next t (sym split ∙ e) in
     ap cell_of same.1 ∙ cell
+
+pub some_last : (coming : List CellTable) (channel bar : ℕ) → IsLastOf coming channel bar → 0 < length coming
+some_last coming channel bar (t, rest, e, cell) = omega (arith, ap length e, length-append rest (t ∷ []))
+
+-- it is that of one bar alone
+pub one_last : (coming : List CellTable) (channel bar other : ℕ) → IsLastOf coming channel bar → IsLastOf coming channel other → bar ≡ other
+one_last coming channel bar other (t, rest, e, cell) last = ap (λ (c : ℕ × ℕ). c.1) (sym cell ∙ cell_is coming rest t channel other e last)
+
+pub bar_is : (coming rest : List CellTable) (next : CellTable) (channel first bars bar : ℕ) → coming ≡ rest ++ next ∷ [] → IsNextBar coming channel first bars bar → next.bar ≡ bar
+bar_is coming rest next channel first bars bar split is_next = ap (λ (c : ℕ × ℕ). c.1) (cell_is coming rest next channel bar split is_next.last)
 
 pub turned_last : (coming rest : List CellTable) (next : CellTable) → coming ≡ rest ++ next ∷ [] → reverse coming ≡ next ∷ reverse rest
 turned_last coming rest next split = ap reverse split ∙ reverse-append rest (next ∷ [])
@@ -53,6 +63,12 @@ pub came_long : (tables later : List BarTable) (next : CellTable) (gone more : L
 came_long tables later next gone more bar at swaps pushes = elim (cases_lt next.bar (length tables)) [
   | inl lt ↦ let now = swaps lt in omega (arith, ap length now.0, length-set tables next.bar next.table)
   | inr le ↦ let now = pushes le in omega (arith, ap length now.0, length-append tables (next.table ∷ []), le, at)
+]
+
+pub came_longer : (tables later : List BarTable) (next : CellTable) (gone more : List CellTable) → Swaps tables later next gone more → Pushes tables later next gone more → length tables ≤ length later
+came_longer tables later next gone more swaps pushes = elim (cases_lt next.bar (length tables)) [
+  | inl lt ↦ let now = swaps lt in omega (arith, ap length now.0, length-set tables next.bar next.table)
+  | inr le ↦ let now = pushes le in omega (arith, ap length now.0, length-append tables (next.table ∷ []))
 ]
 
 pub came_count : (tables later : List BarTable) (next : CellTable) (coming rest gone more : List CellTable) (bar n : ℕ) → next.bar ≡ bar → coming ≡ rest ++ next ∷ [] → Swaps tables later next gone more
@@ -117,3 +133,28 @@ module _ (x : Change) (is : IsChange x) (channel : ℕ) (voice : Contains x.befo
             subst (λ ts. IsVoiceUpTo x channel (n + 1) ts coming first (reverse rest) more) (sym is.0)
             (subst (λ l. IsVoiceUpTo x channel (n + 1) (tables ++ next.table ∷ []) coming first (reverse rest) l) (sym is.1) step)
       ]
+
+  -- bars that no table comes for keep theirs
+  bars_stayed : (count n : ℕ) (left gone : List CellTable) (tables : List BarTable) → n + count ≤ length x.after.bars → ((bar : ℕ) → n ≤ bar → bar < n + count → IsLastOf left channel bar → ⊥)
+      → IsVoiceUpTo x channel n tables coming first (reverse left) gone → IsVoiceUpTo x channel (n + count) tables coming first (reverse left) gone
+  bars_stayed zero n left gone tables low none h = subst (λ m. IsVoiceUpTo x channel m tables coming first (reverse left) gone) (omega arith) h
+  bars_stayed (suc count) n left gone tables low none h =
+      subst (λ m. IsVoiceUpTo x channel m tables coming first (reverse left) gone) (omega arith)
+      (bars_stayed count (n + 1) left gone tables (omega (arith, low)) (λ bar from lt. none bar (omega (arith, from)) (omega (arith, lt)))
+      (bar_stayed n (reverse left) gone tables (omega (arith, low)) (not_first left channel n (none n (omega arith) (omega arith))) h))
+
+  pub stayed_up_to : (n bar : ℕ) (left gone : List CellTable) (tables : List BarTable) → n ≤ bar → bar ≤ length x.after.bars → ((k : ℕ) → n ≤ k → k < bar → IsLastOf left channel k → ⊥)
+      → IsVoiceUpTo x channel n tables coming first (reverse left) gone → IsVoiceUpTo x channel bar tables coming first (reverse left) gone
+  stayed_up_to n bar left gone tables le low none h =
+      let there : n + (bar - n) ≡ bar = omega (arith, le) in
+      subst (λ m. IsVoiceUpTo x channel m tables coming first (reverse left) gone) there
+      (bars_stayed (bar - n) n left gone tables (omega (arith, there, low)) (λ k from lt. none k from (omega (arith, there, lt))) h)
+
+  -- up to the next table, which comes in
+  pub next_came : (n bars bar : ℕ) (next : CellTable) (left rest gone more : List CellTable) (tables later : List BarTable) → bars ≡ length x.after.bars → IsNextBar left channel n bars bar
+      → left ≡ rest ++ next ∷ [] → Swaps tables later next gone more → Pushes tables later next gone more
+      → IsVoiceUpTo x channel n tables coming first (reverse left) gone → IsVoiceUpTo x channel (bar + 1) later coming first (reverse rest) more
+  next_came n bars bar next left rest gone more tables later same is_next split swaps pushes h =
+      let low : bar < length x.after.bars = omega (arith, is_next.within, same) in
+      bar_came bar next left rest gone more tables later low split (cell_is left rest next channel bar split is_next.last) swaps pushes
+      (stayed_up_to n bar left gone tables is_next.from (omega (arith, low)) (λ k from lt last. let one = one_last left channel k bar last is_next.last in omega (arith, one, lt)) h)

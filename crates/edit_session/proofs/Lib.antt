@@ -40,3 +40,4 @@ pub mod LocalCells
 pub mod NoteParts
 pub mod SameSides
 pub mod TouchedNotes
+pub mod TouchedBars

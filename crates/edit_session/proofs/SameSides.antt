@@ -11,20 +11,6 @@ use Rattle.voices.proofs.NoteBreaks.{notes_rise}
 use Rattle.voices.proofs.VoiceParts.{filter-skip}
 use Rattle.voices.specs.Voice.{AreNotesOfVoice}
 
--- two tests one after the other, in either order
-pub filter_swap : {X : Type 0} (p q : X → Bool) (xs : List X) → filter p (filter q xs) ≡ filter q (filter p xs)
-filter_swap p q [] = refl
-filter_swap p q (x ∷ xs) = at (p x) (q x) refl refl (filter_swap p q xs)
-  where
-    at : (a b : Bool) → p x ≡ a → q x ≡ b → filter p (filter q xs) ≡ filter q (filter p xs)
-        → filter p (if b then x ∷ filter q xs else filter q xs) ≡ filter q (if a then x ∷ filter p xs else filter p xs)
-    at true true is has rest =
-        ap (λ (c : Bool). if c then x ∷ filter p (filter q xs) else filter p (filter q xs)) is ∙ ap (λ l. x ∷ l) rest
-        ∙ sym (ap (λ (c : Bool). if c then x ∷ filter q (filter p xs) else filter q (filter p xs)) has)
-    at true false is has rest = rest ∙ sym (ap (λ (c : Bool). if c then x ∷ filter q (filter p xs) else filter q (filter p xs)) has)
-    at false true is has rest = ap (λ (c : Bool). if c then x ∷ filter p (filter q xs) else filter p (filter q xs)) is ∙ rest
-    at false false is has rest = rest
-
 module _ (p : Note → Bool) where
   -- none of them pass
   none_pass : (xs : List Note) → ((k : ℕ) (d : Note) → k < length xs → p (get_or xs k d) ≡ false) → filter p xs ≡ []

@@ -57,6 +57,12 @@ tables_of_bars channel bar (table ∷ tables) = record { channel = channel; bar 
 abbrev pub IsLastOf : List CellTable → ℕ → ℕ → Type 0
 IsLastOf tables channel bar = (t : CellTable) × (rest : List CellTable) × (tables ≡ rest ++ t ∷ []) × (cell_of t ≡ (channel, bar))
 
+-- the last of the tables is that of a bar of the voice, from one bar up to another
+pub record IsNextBar (tables : List CellTable) (channel first bars bar : ℕ) : Type 0 where
+  pub from : first ≤ bar
+  pub within : bar < bars
+  pub last : IsLastOf tables channel bar
+
 -- what goes out where the table of a cell comes in: the one in its place
 abbrev pub table_out : List BarTable → CellTable → CellTable
 table_out tables t = record { channel = t.channel; bar = t.bar; table = slice_index_or tables t.bar t.table }
@@ -114,7 +120,7 @@ pub record HasPlace (voices : List VoiceTables) (bars : ℕ) (coming : List Cell
 abbrev pub IsCheapTable : CellTable → Type 0
 IsCheapTable t = IsCheap DEAREST_CELL t.table.matrix
 
--- ---- what the exchange of a bar, of a voice and of all voices does. The tables that come are kept in turned order
+-- ---- what the exchange of a voice and of all voices does. The tables that come are kept in turned order
 
 -- no other tables of these bars go out than come in
 abbrev pub HasEvenCount : {A : Type 0} → ℕ → Vec CellTable A → Vec CellTable A → Vec CellTable A → Vec CellTable A → Type 0
@@ -145,12 +151,6 @@ abbrev pub IsPushed : {A : Type 0} → VoiceTables → VoiceTables → CellTable
 IsPushed voice after coming gone out =
     length voice.tables ≤ coming.bar → (after.tables ≡ voice.tables ++ coming.table ∷ []) × (out.items ≡ gone.items)
 
-abbrev pub ExchangesBar : {A : Type 0} → ℕ → ℕ → VoiceTables → VoiceTables → Vec CellTable A → Vec CellTable A → Vec CellTable A → Vec CellTable A → Type 0
-ExchangesBar channel bar voice after coming left gone out =
-    (x : Change) (first begin : List CellTable) → IsChange x → Contains x.before.channels channel → bar < length x.after.bars
-    → IsVoiceUpTo x channel bar voice.tables first begin (reverse coming.items) gone.items
-    → IsVoiceUpTo x channel (bar + 1) after.tables first begin (reverse left.items) out.items
-
 abbrev pub ExchangesBars : {A : Type 0} → ℕ → ℕ → VoiceTables → VoiceTables → Vec CellTable A → Vec CellTable A → Vec CellTable A → Vec CellTable A → Type 0
 ExchangesBars channel bars voice after coming left gone out =
     (x : Change) → IsVoiceBefore x channel voice.tables (reverse coming.items) gone.items → bars ≡ length x.after.bars
@@ -176,10 +176,6 @@ HasShortWayBack channels bars voices coming gone =
 -- ---- its products
 
 -- at most d products for each table that came in, where there are at most 2 ^ d bars
-abbrev pub RisesForBar : {A : Type 0} → VoiceTables → Vec CellTable A → Vec CellTable A → ℕ → ℕ → Type 0
-RisesForBar after coming left old new =
-    (old ≤ new) × ((d m : ℕ) → length after.tables ≤ 2 ^ d → length coming.items ≡ length left.items + m → new ≤ risen old (m * d))
-
 abbrev pub RisesForBars : {A : Type 0} → ℕ → VoiceTables → Vec CellTable A → Vec CellTable A → ℕ → ℕ → Type 0
 RisesForBars bars voice coming left old new =
     (old ≤ new) × ((d m : ℕ) → length voice.tables ≤ 2 ^ d → bars ≤ 2 ^ d → length coming.items ≡ length left.items + m

@@ -1,4 +1,4 @@
--- The ticks between which an edit adds notes, drops notes or moves them.
+-- The ticks between which an edit adds notes, drops notes or moves them, and the bars and pins that it leaves.
 use Rattle.std.specs.Prelude.{◌≡◌, ℕ, ◌+◌, ⊤, min, max}
 use Rattle.rhythm_base.specs.declared.limits.TheConstants.{LATEST_TICK}
 use Rattle.rhythm_base.specs.declared.edit.Edit.{Edit}
@@ -36,3 +36,14 @@ LeavesPin (Move _ key onset to) channel bar = ⊤
 LeavesPin (Barline _ tick) channel bar = ⊤
 LeavesPin AddBar channel bar = ⊤
 LeavesPin DropBar channel bar = ⊤
+
+-- it sets no barline at the start or the end of that bar, and does not add it. There are so many bars afterwards
+abbrev pub LeavesBar : Edit → ℕ → ℕ → Type 0
+LeavesBar (Barline number tick) bars bar = (number ≡ bar → ⊥) × (number ≡ bar + 1 → ⊥)
+LeavesBar AddBar bars bar = bar + 1 ≡ bars → ⊥
+LeavesBar (Add _ key onset end) bars bar = ⊤
+LeavesBar (Drop _ key onset) bars bar = ⊤
+LeavesBar (Move _ key onset to) bars bar = ⊤
+LeavesBar (Pin _ number shape) bars bar = ⊤
+LeavesBar (Unpin _ number) bars bar = ⊤
+LeavesBar DropBar bars bar = ⊤

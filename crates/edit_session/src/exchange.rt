@@ -1,5 +1,4 @@
 ghost use Rattle.edit_session.specs.Exchange.{
-  ExchangesBar,
   ExchangesBars,
   ExchangesVoice,
   ExchangesVoices,
@@ -10,11 +9,10 @@ ghost use Rattle.edit_session.specs.Exchange.{
   HasShortWayBack,
   IsBarCount,
   IsCheapTable,
-  IsLastOf,
+  IsNextBar,
   IsNoMoreThanCame,
   IsPushed,
   IsSwapped,
-  RisesForBar,
   RisesForBars,
   RisesForLost,
   RisesForVoice,
@@ -26,7 +24,6 @@ ghost use Rattle.chain_bars.specs.Products.{RisesOnce};
 ghost use Rattle.rhythm_base.specs.declared.limits.TheConstants.{MOST_BARS};
 ghost use Rattle.std.specs.Prelude.{
   ◌≡◌,
-  ◌↔◌,
   ◌+◌,
   ◌*◌,
   ◌-◌,
@@ -39,7 +36,8 @@ ghost use Rattle.std.specs.Prelude.{
   ◌∷◌,
   All,
   Contains,
-  IsTrue,
+  IfNone,
+  IfSome,
   List,
   drop,
   length,
@@ -62,13 +60,21 @@ pub struct Exchanged {
     pub place: Vec<CellTable>,
 }
 
-/// Whether the last of the tables is that of this cell.
-fn is_last_of(tables: &[CellTable], channel: u8, bar: u32) -> bool
-    ensures { IsTrue result ↔ IsLastOf tables.now channel bar }
+/// The bar of the last of the tables, where it is one of this voice, from one bar up to another.
+fn next_bar(coming: &[CellTable], channel: u8, first: usize, bars: usize) -> Option<usize>
+    ensures some { IfSome result (IsNextBar coming.now channel first bars) }
+    ensures none { IfNone result ((bar : ℕ) → IsNextBar coming.now channel first bars bar → ⊥) }
 {
-    match tables.last() {
-        None => false,
-        Some(table) => table.channel == channel && table.bar == bar,
+    match coming.last() {
+        None => None,
+        Some(table) => {
+            let bar = table.bar as usize;
+            if table.channel == channel && first <= bar && bar < bars {
+                Some(bar)
+            } else {
+                None
+            }
+        }
     }
 }
 
@@ -102,39 +108,7 @@ fn place_table<P: Tag>(
     }
 }
 
-/// Takes in the table of a bar of a voice, where the last one of `coming` is it.
-fn exchange_bar<P: Tag>(
-    voice: &mut VoiceTables,
-    channel: u8,
-    bar: u32,
-    coming: &mut Vec<CellTable>,
-    gone: &mut Vec<CellTable>,
-    products: &mut Steps<P>,
-)
-    requires few { bar < MOST_BARS }
-    requires room { bar < voice.old.room }
-    requires cheap { All IsCheapTable coming.old.items }
-    requires memory { IsLastOf coming.old.items channel bar → bar < length voice.old.tables
-        → length gone.old.items < vec_capacity gone.old }
-    ensures exchanged { ExchangesBar channel bar voice.old voice.new coming.old coming.new gone.old gone.new }
-    ensures no_fewer { length voice.old.tables ≤ length voice.new.tables }
-    ensures no_more { length voice.new.tables ≤ max (length voice.old.tables) (bar + 1) }
-    ensures room { voice.new.room ≡ voice.old.room }
-    ensures cheap { All IsCheapTable coming.new.items }
-    ensures count { (n : ℕ) → (bar < n) ↔ (bar < length voice.old.tables)
-        → HasEvenCount n coming.old coming.new gone.old gone.new }
-    ensures capacity { vec_capacity gone.new ≡ vec_capacity gone.old }
-    ensures capacity_coming { vec_capacity coming.new ≡ vec_capacity coming.old }
-    ensures products { RisesForBar voice.new coming.old coming.new products.old products.new }
-    ensures less { length coming.new.items ≤ length coming.old.items }
-{
-    if is_last_of(coming.as_slice(), channel, bar) {
-        let next = coming.take_last();
-        place_table(voice, next, gone, products);
-    }
-}
-
-/// Takes in the tables of the first bars of a voice, each where the last one of `coming` is that of the bar.
+/// Takes in the tables of the first bars of a voice, the last one of `coming` first, as long as their bars rise.
 fn exchange_bars<P: Tag>(
     voice: &mut VoiceTables,
     channel: u8,
@@ -158,8 +132,11 @@ fn exchange_bars<P: Tag>(
     ensures products { RisesForBars bars voice.old coming.old coming.new products.old products.new }
     ensures less { length coming.new.items ≤ length coming.old.items }
 {
-    'bars: for number in 0..bars {
-        exchange_bar(voice, channel, number as u32, coming, gone, products);
+    let mut first = 0;
+    'tables: while let Some(bar) = next_bar(coming.as_slice(), channel, first, bars) {
+        let next = coming.take_last();
+        place_table(voice, next, gone, products);
+        first = bar + 1;
     }
 }
 

@@ -3,12 +3,13 @@ use Rattle.rhythm_base.specs.Counter.{risen}
 use Rattle.edit_session.specs.Exchange.{Change, IsCheapTable, IsVoiceBefore, IsVoiceUpTo, tables_below}
 use Rattle.edit_session.proofs.exchange.exchange_bars.Given as goal
 
-abbrev pub invariant-bars : goal.invariant-bars
-invariant-bars g l = record {
+abbrev pub invariant-tables : goal.invariant-tables
+invariant-tables g l = record {
   exchanged : (x : Change) → IsVoiceBefore x l.channel l.initial.voice.tables (reverse l.initial.coming.items) l.initial.gone.items → l.bars ≡ length x.after.bars
-      → IsVoiceUpTo x l.channel l.number l.voice.tables (reverse l.initial.coming.items) l.initial.gone.items (reverse l.coming.items) l.gone.items;
+      → IsVoiceUpTo x l.channel l.first l.voice.tables (reverse l.initial.coming.items) l.initial.gone.items (reverse l.coming.items) l.gone.items;
+  within : l.first ≤ l.bars;
   no_fewer : length l.initial.voice.tables ≤ length l.voice.tables;
-  no_more : length l.voice.tables ≤ max (length l.initial.voice.tables) l.number;
+  no_more : length l.voice.tables ≤ max (length l.initial.voice.tables) l.first;
   room : l.voice.room ≡ l.initial.voice.room;
   cheap : All IsCheapTable l.coming.items;
   count : length l.gone.items + tables_below (length l.initial.voice.tables) l.coming.items ≡ length l.initial.gone.items + tables_below (length l.initial.voice.tables) l.initial.coming.items;
@@ -18,3 +19,6 @@ invariant-bars g l = record {
   less : length l.coming.items ≤ length l.initial.coming.items;
   rises : l.initial.products ≤ l.products;
 }
+
+abbrev pub decreases-tables : goal.decreases-tables
+decreases-tables g l = length l.coming.items

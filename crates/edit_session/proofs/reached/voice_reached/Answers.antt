@@ -7,12 +7,13 @@ use Rattle.rhythm_base.specs.declared.note.Note.{Note}
 use Rattle.rhythm_base.specs.Chords.{AreChords}
 use Rattle.rhythm_base.specs.Voices.{notes_of_voice}
 use Rattle.voices.specs.Voice.{AreNotesOfVoice}
+use Rattle.rhythm_base.proofs.ListParts.{filter_swap}
 use Rattle.edit_session.specs.declared.span.Span.{Span}
 use Rattle.edit_session.specs.ReachedCells.{AreOtherInputsWithin, place_pair}
 use Rattle.edit_session.specs.Spans.{IsNoteSpan}
 use Rattle.edit_session.proofs.LocalCells.{all_within}
 use Rattle.edit_session.proofs.NoteParts.{between_of_voice, part_can_be_cut}
-use Rattle.edit_session.proofs.SameSides.{filter_swap, is_early, is_late}
+use Rattle.edit_session.proofs.SameSides.{is_early, is_late}
 use Rattle.edit_session.proofs.VoiceNotes.{notes_are_voice}
 use Rattle.edit_session.proofs.reached.voice_reached.Goals as goal
 
