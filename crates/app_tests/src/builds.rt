@@ -18,14 +18,16 @@ impl Gate for CountingGate {
 }
 
 /// What is given, the call that fails, the status, how many cells are built, those of the piece and those that edits
-/// reach, and how many products of tables are made: for the bars of a voice one less than there are, and for a table
-/// that comes in among them one a level at which it has a neighbour, there and back where an edit is tried.
+/// reach, how many of them pass the gate: all but those that the search for barlines passes over, and how many products
+/// of tables are made: for the bars of a voice one less than there are, and for a table that comes in among them one a
+/// level at which it has a neighbour, there and back where an edit is tried.
 struct Building {
     shows: &'static str,
     given: Given<'static>,
     failing: Failing,
     status: u8,
     builds: u64,
+    passes: u64,
     products: u64,
 }
 
@@ -46,6 +48,7 @@ const BUILDINGS: &[Building] = &[
         failing: NONE_FAILS,
         status: 0,
         builds: 4,
+        passes: 4,
         products: 2,
     },
     Building {
@@ -58,6 +61,7 @@ const BUILDINGS: &[Building] = &[
         failing: NONE_FAILS,
         status: 0,
         builds: 4,
+        passes: 4,
         products: 2,
     },
     Building {
@@ -70,6 +74,7 @@ const BUILDINGS: &[Building] = &[
         failing: NONE_FAILS,
         status: 0,
         builds: 4,
+        passes: 4,
         products: 2,
     },
     Building {
@@ -82,6 +87,7 @@ const BUILDINGS: &[Building] = &[
         failing: NONE_FAILS,
         status: 0,
         builds: 0,
+        passes: 0,
         products: 0,
     },
     Building {
@@ -94,6 +100,7 @@ const BUILDINGS: &[Building] = &[
         failing: NONE_FAILS,
         status: 0,
         builds: 4096,
+        passes: 4096,
         products: 4095,
     },
     Building {
@@ -106,6 +113,7 @@ const BUILDINGS: &[Building] = &[
         failing: NONE_FAILS,
         status: 3,
         builds: 1,
+        passes: 1,
         products: 0,
     },
     Building {
@@ -118,6 +126,7 @@ const BUILDINGS: &[Building] = &[
         failing: NONE_FAILS,
         status: 0,
         builds: 1,
+        passes: 1,
         products: 0,
     },
     Building {
@@ -130,6 +139,7 @@ const BUILDINGS: &[Building] = &[
         failing: NONE_FAILS,
         status: 0,
         builds: 9,
+        passes: 9,
         products: 13,
     },
     Building {
@@ -142,6 +152,7 @@ const BUILDINGS: &[Building] = &[
         failing: NONE_FAILS,
         status: 0,
         builds: 4,
+        passes: 4,
         products: 0,
     },
     Building {
@@ -154,6 +165,7 @@ const BUILDINGS: &[Building] = &[
         failing: NONE_FAILS,
         status: 0,
         builds: 9,
+        passes: 9,
         products: 35,
     },
     Building {
@@ -166,6 +178,7 @@ const BUILDINGS: &[Building] = &[
         failing: NONE_FAILS,
         status: 0,
         builds: 4,
+        passes: 4,
         products: 4,
     },
     Building {
@@ -182,6 +195,7 @@ const BUILDINGS: &[Building] = &[
         failing: NONE_FAILS,
         status: 0,
         builds: 9,
+        passes: 9,
         products: 13,
     },
     Building {
@@ -198,6 +212,7 @@ const BUILDINGS: &[Building] = &[
         failing: NONE_FAILS,
         status: 2,
         builds: 3,
+        passes: 3,
         products: 2,
     },
     Building {
@@ -210,6 +225,7 @@ const BUILDINGS: &[Building] = &[
         failing: NONE_FAILS,
         status: 0,
         builds: 8,
+        passes: 8,
         products: 13,
     },
     Building {
@@ -222,6 +238,7 @@ const BUILDINGS: &[Building] = &[
         failing: NONE_FAILS,
         status: 9,
         builds: 4,
+        passes: 4,
         products: 0,
     },
     Building {
@@ -234,6 +251,7 @@ const BUILDINGS: &[Building] = &[
         failing: NONE_FAILS,
         status: 4,
         builds: 0,
+        passes: 0,
         products: 0,
     },
     Building {
@@ -246,6 +264,7 @@ const BUILDINGS: &[Building] = &[
         failing: NONE_FAILS,
         status: 0,
         builds: 335,
+        passes: 100,
         products: 19,
     },
     Building {
@@ -262,6 +281,7 @@ const BUILDINGS: &[Building] = &[
         failing: NONE_FAILS,
         status: 0,
         builds: 8,
+        passes: 8,
         products: 4,
     },
     Building {
@@ -274,6 +294,7 @@ const BUILDINGS: &[Building] = &[
         failing: NONE_FAILS,
         status: 3,
         builds: 1,
+        passes: 1,
         products: 0,
     },
     Building {
@@ -286,6 +307,7 @@ const BUILDINGS: &[Building] = &[
         failing: NONE_FAILS,
         status: 3,
         builds: 1000,
+        passes: 1000,
         products: 998,
     },
     Building {
@@ -298,6 +320,7 @@ const BUILDINGS: &[Building] = &[
         failing: NONE_FAILS,
         status: 0,
         builds: 1070,
+        passes: 1070,
         products: 1628,
     },
     Building {
@@ -313,6 +336,7 @@ const BUILDINGS: &[Building] = &[
         },
         status: 6,
         builds: 2,
+        passes: 2,
         products: 1,
     },
 ];
@@ -337,7 +361,7 @@ fn so_many_cells_are_built_and_multiplied(rt: HostRuntime) -> Result<(), Fail> {
             (
                 building.status,
                 building.builds,
-                building.builds,
+                building.passes,
                 building.products
             ),
             "{}",

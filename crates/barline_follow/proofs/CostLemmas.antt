@@ -1,5 +1,5 @@
 -- The least of several costs, and the costs of least keys.
-use Rattle.std.proofs.Common.{◌≡◌, ℕ, zero, suc, ◌<◌, ◌≤◌, ◌⊎◌, inl, inr, Bool, true, false, refl, ap, ap₂, sym, ◌∙◌, arith}
+use Rattle.std.proofs.Common.{◌≡◌, ℕ, zero, suc, ◌+◌, ◌<◌, ◌≤◌, ◌⊎◌, inl, inr, Bool, true, false, refl, ap, ap₂, sym, ◌∙◌, arith}
 use Rattle.std.specs.Prelude.{Option, Some, None, min, if◌then◌else◌}
 use Rattle.std.specs.Cmp.{nat_cmp_is}
 use Rattle.std.specs.Ordering.{is_lt, nat_cmp, ordering_then}
@@ -69,6 +69,13 @@ least_low costs (suc n) k c lt h = elim (cases_lt k n) [
 pub least_same : (f g : ℕ → Option ℕ) (n : ℕ) → ((k : ℕ) → k < n → f k ≡ g k) → least_below f n ≡ least_below g n
 least_same f g zero h = refl
 least_same f g (suc n) h = ap₂ lower (least_same f g n (λ k lt. h k (omega (arith, lt)))) (h n (omega arith))
+
+-- ---- sums
+
+pub sum_parts : (a b : Option ℕ) (c : ℕ) → sum a b ≡ Some c → (x : ℕ) × (y : ℕ) × (a ≡ Some x) × (b ≡ Some y) × (c ≡ x + y)
+sum_parts None b c h = absurd (cc)
+sum_parts (Some x) None c h = absurd (cc)
+sum_parts (Some x) (Some y) c h = (x, y, refl, refl, let same : x + y ≡ c = cc in sym same)
 
 -- ---- the costs of least keys
 

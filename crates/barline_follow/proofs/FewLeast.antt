@@ -17,20 +17,20 @@ use Rattle.barline_follow.proofs.Gathering.{taken}
 use Rattle.barline_follow.proofs.OneAnswers.{one_first_least}
 
 module _ {X : Type 0} (value tick : X → ℕ) (x : X) where
-  abbrev place : X → List ℕ
+  abbrev pub place : X → List ℕ
   place y = place_of value tick y
 
-  abbrev is_elsewhere : X → Bool
+  abbrev pub is_elsewhere : X → Bool
   is_elsewhere y = not (nat_eq (tick y) (tick x))
 
   -- ---- what is kept with x, one after another: x goes before the first that it stands before, unless one up to there has its tick
 
-  abbrev with_one : List X → List X
+  abbrev pub with_one : List X → List X
   with_one [] = x ∷ []
   with_one (k ∷ ks) =
       if earlier (place x) (place k) then x ∷ filter is_elsewhere (k ∷ ks) else (if nat_eq (tick k) (tick x) then k ∷ ks else k ∷ with_one ks)
 
-  all_elsewhere : (ks : List X) → ((y : X) → Contains ks y → tick y ≡ tick x → ⊥) → filter is_elsewhere ks ≡ ks
+  pub all_elsewhere : (ks : List X) → ((y : X) → Contains ks y → tick y ≡ tick x → ⊥) → filter is_elsewhere ks ≡ ks
   all_elsewhere [] away = refl
   all_elsewhere (k ∷ ks) away = by (nat_eq (tick k) (tick x)) refl (all_elsewhere ks (λ y c. away y (later k y ks c)))
     where
@@ -160,7 +160,7 @@ module _ {X : Type 0} (value tick : X → ℕ) (x : X) where
           ticks_same : (a b s t : ℕ) → ◌≡◌ {A = List ℕ} (a ∷ s ∷ []) (b ∷ t ∷ []) → t ≡ s
           ticks_same a b s t e = cc
 
-  kept_with_one : (xs ks : List X) → AreFirstLeast value tick xs ks → AreFirstLeast value tick (xs ++ (x ∷ [])) (with_one ks)
+  pub kept_with_one : (xs ks : List X) → AreFirstLeast value tick xs ks → AreFirstLeast value tick (xs ++ (x ∷ [])) (with_one ks)
   kept_with_one xs ks h = elim (comes ks h.in_order) [
     | inl same ↦ subst (AreFirstLeast value tick (xs ++ (x ∷ []))) (sym same.1) (same_kept value tick xs x ks h same.0.0 same.0.1 same.0.2 same.0.3)
     | inr new ↦ subst (AreFirstLeast value tick (xs ++ (x ∷ []))) (sym new.1) (new_kept value tick xs x ks h new.0)

@@ -219,7 +219,7 @@ module _ {X : Type 0} (value tick : X → ℕ) where
 
     module _ (kept : List X) (h : AreFirstLeast value tick xs kept) where
       -- what is kept is no dearer than what is there
-      cover : (a : X) → Contains xs a → (k : X) × Contains kept k × (tick k ≡ tick a) × (value k ≤ value a)
+      pub cover : (a : X) → Contains xs a → (k : X) × Contains kept k × (tick k ≡ tick a) × (value k ≤ value a)
       cover a c = elim (has_first xs (tick a)) [
         | inl k ↦ (k.0, (h.exactly k.0).1 k.1, k.2, k.1.least a c (sym k.2))
         | inr none ↦ absurd (none a c refl)

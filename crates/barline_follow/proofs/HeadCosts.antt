@@ -1,5 +1,5 @@
 -- From the heads of the voices to what a list costs.
-use Rattle.std.proofs.Common.{◌≡◌, ◌⊎◌, inl, inr, ℕ, ◌+◌, ◌<◌, ◌≤◌, Bool, true, false, List, [], ◌∷◌, refl, ap, ap₂, sym, ◌∙◌, subst, arith}
+use Rattle.std.proofs.Common.{◌≡◌, ◌⊎◌, inl, inr, ℕ, ◌<◌, ◌≤◌, Bool, true, false, List, [], ◌∷◌, refl, ap, ap₂, sym, ◌∙◌, subst, arith}
 use Rattle.std.specs.Prelude.{All, Option, Some, None, nat_lt, not, ◌||◌, ◌&&◌, ◌==◌}
 use Rattle.std.specs.List.{list_all, list_any}
 use Rattle.std.proofs.lemmas.Bool.{false≢true}
@@ -41,7 +41,7 @@ use Rattle.barline_follow.specs.Bars.{bars_on, is_closed, with_barlines}
 use Rattle.barline_follow.specs.Costs.{head_cost_at, least_of_five, own_cost, sum, total}
 use Rattle.barline_follow.specs.HeadCost.{IsHeadCost, IsHeadOfVoice, IsHeadRun, IsSum, chords_in, run_cost}
 use Rattle.barline_follow.specs.Courses.{AreHeads, bars_of}
-use Rattle.barline_follow.proofs.CostLemmas.{cost_key, least_is, least_low, not_less_cost}
+use Rattle.barline_follow.proofs.CostLemmas.{cost_key, least_is, least_low, not_less_cost, sum_parts}
 use Rattle.barline_follow.proofs.LongerBars.{one_voice}
 
 -- ---- the least paths over the tables of a voice, and runs of the voice
@@ -87,11 +87,6 @@ module _ (g : Grammar) (bars : List VoiceBar) (cs : List Inner) (tables : List B
 module _ (Costs : ℕ → ℕ → Type 0) (is_closed : Bool) (Voice : ℕ → List Chord → Type 0) (Of : List Chord → Heads → Type 0)
     (yes : (channel : ℕ) (voice : List Chord) (heads : Heads) → Voice channel voice → Of voice heads → (c : ℕ) → own_cost is_closed heads ≡ Some c → Costs channel c)
     (no : (channel : ℕ) (voice : List Chord) (heads : Heads) → Voice channel voice → Of voice heads → own_cost is_closed heads ≡ None → (c : ℕ) → Costs channel c → ⊥) where
-  sum_parts : (a b : Option ℕ) (c : ℕ) → sum a b ≡ Some c → (x : ℕ) × (y : ℕ) × (a ≡ Some x) × (b ≡ Some y) × (c ≡ x + y)
-  sum_parts None b c h = absurd (cc)
-  sum_parts (Some x) None c h = absurd (cc)
-  sum_parts (Some x) (Some y) c h = (x, y, refl, refl, let same : x + y ≡ c = cc in sym same)
-
   no_parts : (a b : Option ℕ) → sum a b ≡ None → (a ≡ None) ⊎ (b ≡ None)
   no_parts None b h = inl refl
   no_parts (Some x) None h = inr refl

@@ -19,6 +19,13 @@ pub mod FirstLeast
 pub mod Further
 pub mod Gaining
 pub mod Gathering
+pub mod FewBelow
+pub mod RuledOut
+pub mod RisingTotals
+pub mod KnownCosts
+pub mod PassedOver
+pub mod LongerLists
+pub mod Batches
 pub mod LaidBars
 pub mod Offered
 pub mod OneAnswers

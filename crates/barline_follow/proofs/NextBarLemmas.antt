@@ -1,5 +1,5 @@
 -- The bar that lists get in a round: its signature, and the bars that are tried.
-use Rattle.std.proofs.Common.{◌≡◌, ◌≢◌, ℕ, zero, suc, ◌+◌, ◌-◌, ◌<◌, ◌≤◌, Bool, true, false, refl, arith, List, [], ◌∷◌, ◌++◌, Vec, Global, length, length-append, map, take, drop, get_or, ap, ap₂, sym, subst, ◌∙◌, Result, Ok, Err}
+use Rattle.std.proofs.Common.{◌≡◌, ◌≢◌, ℕ, zero, suc, ◌+◌, ◌-◌, ◌<◌, ◌≤◌, Bool, true, false, refl, arith, List, [], ◌∷◌, ◌++◌, length, length-append, ap, sym, subst, ◌∙◌, Result, Ok, Err}
 use Rattle.std.specs.Prelude.{All, IfOk, Some, None, min, not, slice_get, filter, nat_le, ◌&&◌}
 use Rattle.std.specs.List.{flat_map, list_any, zip}
 use Rattle.std.specs.Result.{is_ok}
@@ -8,54 +8,33 @@ use Rattle.bar_cut.specs.Cuts.{IsFirstWithoutStart}
 use Rattle.bar_cut.specs.declared.fault.CutFault.{CutFault}
 use Rattle.bar_cut.specs.declared.fault.CutFault.TheVariants.{Memory, NoStart}
 use Rattle.std.proofs.lemmas.Bool.Decides.{nat_tests}
-use Rattle.std.proofs.lemmas.Grind.{flat_map-append}
 use Rattle.std.proofs.Common.{◌||◌, length-append, max}
 use Rattle.std.proofs.lemmas.List.Folds.{list_any-append}
-use Rattle.std.proofs.lemmas.List.{append-nil, drop_more, get_or-append-add, get_or_append_left, length-map}
-use Rattle.std.proofs.lemmas.List.Elements.{All-append, All-map, All-nil}
+use Rattle.std.proofs.lemmas.List.{get_or-append-add, get_or_append_left, length-map}
+use Rattle.std.proofs.lemmas.List.Elements.{All-append, All-nil}
 use Rattle.std.proofs.lemmas.Option.{get_or_from_slice_get, slice_get_within}
 use Rattle.barline_follow.specs.declared.next_bar.NextBar.{NextBar}
 use Rattle.barline_follow.specs.declared.offers.Offer.{Offer}
 use Rattle.rhythm_base.specs.declared.limits.TheConstants.{LATEST_TICK}
 use Rattle.rhythm_base.specs.declared.note.Bar.{Bar}
 use Rattle.rhythm_base.specs.declared.note.Note.{Note}
-use Rattle.bar_pool.specs.declared.order.AskedCell.{AskedCell}
 use Rattle.rhythm_base.specs.Lists.{Each}
 use Rattle.edit_laws.specs.Edits.{is_past}
 use Rattle.rhythm_base.specs.Grammar.{Grammar, root_of}
 use Rattle.rhythm_base.specs.Performance.{IsWellFormed, Performance}
 use Rattle.rhythm_base.specs.Signatures.{IsSignature}
 use Rattle.rhythm_base.specs.Voices.{HasStarts}
-use Rattle.rhythm_base.proofs.OrderedLists.{all_head, all_tail}
+use Rattle.rhythm_base.proofs.OrderedLists.{all_head}
 use Rattle.barline_follow.specs.Bars.{pattern_of}
 use Rattle.barline_follow.specs.Barring.{Course, barring_end}
-use Rattle.barline_follow.specs.NextBars.{IsCourseOf, all_asked, all_cells, asked_cell, asked_cells, can_be, cells}
-use Rattle.barline_follow.specs.Courses.{AreHeads, cell}
-use Rattle.barline_follow.proofs.Searching.{zip_more}
+use Rattle.barline_follow.specs.NextBars.{IsCourseOf, asked_cell, asked_cells, can_be}
+use Rattle.barline_follow.specs.Courses.{AreHeads}
 
 pub like_signature : (p : Performance) (i : ℕ) (b : Bar) → IsWellFormed p → pattern_of p i ≡ Some b → IsSignature b.num b.den
 like_signature p i b formed is =
     let k : ℕ = min i (length p.bars - 1) in
     let within = slice_get_within p.bars k b is in
     subst (λ (x : Bar). IsSignature x.num x.den) (get_or_from_slice_get p.bars k b b is) (formed.bars k b within).signature
-
--- the cells of one list more
-pub all_asked_more : (next : NextBar) (front : List Course) (tried : List (Vec Offer Global)) (n : ℕ) (d : Course) (e : Vec Offer Global) → n < length front
-    → n < length tried → all_asked next (take (n + 1) front) (map (λ own. own.items) (take (n + 1) tried))
-    ≡ all_asked next (take n front) (map (λ own. own.items) (take n tried)) ++ flat_map (asked_cells next (get_or front n d)) (get_or tried n e).items
-all_asked_more next front tried n d e low high =
-    let G : Course × List Offer → List AskedCell = λ pair. flat_map (asked_cells next pair.0) pair.1 in
-    let own : List AskedCell = flat_map (asked_cells next (get_or front n d)) (get_or tried n e).items in
-    ap (flat_map G) (zip_more (λ (own : Vec Offer Global). own.items) front tried n d e low high)
-    ∙ flat_map-append G (zip (take n front) (map (λ own. own.items) (take n tried))) ((get_or front n d, (get_or tried n e).items) ∷ [])
-    ∙ ap (λ l. all_asked next (take n front) (map (λ own. own.items) (take n tried)) ++ l) (append-nil own)
-
--- those that are left, list after list
-pub all_asked_next : (next : NextBar) (front : List Course) (tried : List (Vec Offer Global)) (n : ℕ) (d : Course) (e : Vec Offer Global) → n < length front
-    → n < length tried → all_asked next (drop n front) (map (λ own. own.items) (drop n tried))
-    ≡ flat_map (asked_cells next (get_or front n d)) (get_or tried n e).items ++ all_asked next (drop (n + 1) front) (map (λ own. own.items) (drop (n + 1) tried))
-all_asked_next next front tried n d e low high =
-    ap₂ (λ (f : List Course) (t : List (Vec Offer Global)). all_asked next f (map (λ own. own.items) t)) (drop_more front n d low) (drop_more tried n e high)
 
 -- a bar that ends by a tick is no longer than what is left up to there
 le_moved : (a b m : ℕ) → a ≤ m → nat_le b (m - a) ≡ nat_le (a + b) m
@@ -72,17 +51,10 @@ left_is next start most offers le is =
     λ o. ap (λ n. next.is_rooted && nat_le o.ticks n) is ∙ ap (λ b. next.is_rooted && b) (le_moved start o.ticks LATEST_TICK le) in
     ap (λ (f : Offer → Bool). filter f offers) (λ i o. same o i)
 
--- all cells have the units of the grammar
-all_rows : {X Y : Type 0} (P : Y → Type 0) (f : X → List Y) (xs : List X) → ((x : X) → All P (f x)) → All P (flat_map f xs)
+-- what holds of all rows holds of all
+pub all_rows : {X Y : Type 0} (P : Y → Type 0) (f : X → List Y) (xs : List X) → ((x : X) → All P (f x)) → All P (flat_map f xs)
 all_rows P f [] h = All-nil P
 all_rows P f (x ∷ xs) h = All-append P (f x) (flat_map f xs) (h x) (all_rows P f xs h)
-
-pub units_are : (next : NextBar) (front : List Course) (tried : List (List Offer)) → All (λ cell. cell.input.resolution ≡ next.grammar.now.resolution) (all_asked next front tried)
-units_are next front tried =
-    let Units : AskedCell → Type 0 = λ cell. cell.input.resolution ≡ next.grammar.now.resolution in
-    all_rows Units (λ (pair : Course × List Offer). flat_map (asked_cells next pair.0) pair.1) (zip front tried)
-    (λ pair. all_rows Units (asked_cells next pair.0) pair.1
-    (λ o. All-map Units (asked_cell next (barring_end pair.0.barring) (barring_end pair.0.barring + o.ticks)) (zip next.voices.now pair.0.heads) (λ k d lt. refl)))
 
 -- ---- how many cells there are
 
@@ -97,27 +69,6 @@ module _ (next : NextBar) (bars : ℕ) where
   asked_long t is o =
       length-map (zip next.voices.now t.heads) (asked_cell next (barring_end t.barring) (barring_end t.barring + o.ticks))
       ∙ zip_long (AreHeads next.grammar.now next.performance.now t.barring.ticks) next.voices.now t.heads is.heads
-
-  own_long : (t : Course) → IsCourseOf next bars t → (own : List Offer) → length (flat_map (asked_cells next t) own) ≡ length (flat_map (cells next (barring_end t.barring)) own)
-  own_long t is [] = refl
-  own_long t is (o ∷ own) =
-      let first = asked_long t is o in
-      let others = own_long t is own in
-      let asked = length-append (asked_cells next t o) (flat_map (asked_cells next t) own) in
-      let inputs = length-append (cells next (barring_end t.barring) o) (flat_map (cells next (barring_end t.barring)) own) in
-      let voices = length-map next.voices.now (cell next.grammar.now next.like (barring_end t.barring) (barring_end t.barring + o.ticks)) in
-      omega (arith, first, others, asked, inputs, voices)
-
-  -- as many as there are inputs
-  pub as_many : (front : List Course) (tried : List (List Offer)) → All (IsCourseOf next bars) front → length (all_asked next front tried) ≡ length (all_cells next front tried)
-  as_many [] tried h = refl
-  as_many (t ∷ front) [] h = refl
-  as_many (t ∷ front) (own ∷ tried) h =
-      let first = own_long t (all_head (IsCourseOf next bars) t front h) own in
-      let others = as_many front tried (all_tail (IsCourseOf next bars) t front h) in
-      let asked = length-append (flat_map (asked_cells next t) own) (all_asked next front tried) in
-      let inputs = length-append (flat_map (cells next (barring_end t.barring)) own) (all_cells next front tried) in
-      omega (arith, first, others, asked, inputs)
 
 -- whether the bar has a root symbol is what the look-up says
 pub rooted_is : (g : Grammar) (b : Bar) (r : Result (Unit {0}) CutFault) → IfOk r (λ _. HasStarts g (b ∷ []))

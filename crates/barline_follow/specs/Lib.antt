@@ -14,6 +14,8 @@ pub mod Costs
 pub mod Courses
 pub mod NextBars
 pub mod Gathered
+pub mod Longer
+pub mod PassedOver
 pub mod Gathering
 pub mod Sounded
 pub mod Searched

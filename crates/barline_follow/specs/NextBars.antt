@@ -72,10 +72,6 @@ abbrev pub asked_cells : NextBar → Course → Offer → List AskedCell
 asked_cells next course o =
     map (asked_cell next (barring_end course.barring) (barring_end course.barring + o.ticks)) (zip next.voices.now course.heads)
 
--- the cells of all bars that are tried, of each list of the front in its order
-abbrev pub all_asked : NextBar → List Course → List (List Offer) → List AskedCell
-all_asked next front tried = flat_map (λ pair. flat_map (asked_cells next pair.0) pair.1) (zip front tried)
-
 -- ---- the round of it
 
 -- what the round leads to, from the lists of a front and the best so far

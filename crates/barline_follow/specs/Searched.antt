@@ -1,4 +1,5 @@
--- How many tables the search for barlines builds: in each round one for each voice and each bar that is tried.
+-- How many tables the search for barlines counts as built: in each round one for each voice and each bar that is tried, also where the bar
+-- can change nothing of the round and is passed over.
 use Rattle.std.specs.Prelude.{◌≡◌, ℕ, zero, suc, ◌+◌, ◌*◌, Bool, false, ◌&&◌, nat_le, is_some, List, [], ◌∷◌, filter, length, Option, Some, None}
 use Rattle.rhythm_base.specs.declared.limits.TheConstants.{LATEST_TICK}
 use Rattle.rhythm_base.specs.declared.note.Bar.{Bar}
@@ -30,7 +31,7 @@ module _ (g : Grammar) (p : Performance) where
   tried_bars i (b ∷ front) [] = 0
   tried_bars i (b ∷ front) (own ∷ offers) = length (filter (is_tried i b) own) + tried_bars i front offers
 
-  -- round i builds a table, or its costs alone, for each voice and each bar that is tried after a list of the front
+  -- round i counts a table for each voice and each bar that is tried after a list of the front
   pub record AreBuiltInRound (i : ℕ) (front : List Barring) (tables : ℕ) : Type 0 where
     pub offers : List (List Offer)
     pub are_offers : Each (λ b own. AreOffers g p i (last_length b.ticks) own) front offers

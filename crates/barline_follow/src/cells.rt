@@ -1,23 +1,20 @@
 ghost use Rattle.bar_cut.specs.Cuts.{AreBarsAndChords, inputs};
-ghost use Rattle.barline_follow.specs.Barring.{barring_end};
-ghost use Rattle.barline_follow.specs.NextBars.{IsCourseOf, IsNextBar, IsTried, all_asked, asked_cells};
+ghost use Rattle.barline_follow.specs.NextBars.{IsNextBar};
+ghost use Rattle.barline_follow.specs.PassedOver.{IsLonger, cells_in};
 ghost use Rattle.barline_follow.specs.Sounded.{AreSounded};
 ghost use Rattle.rhythm_base.specs.BarInput as inputs_of_bars;
 ghost use Rattle.rhythm_base.specs.Cells.{input};
 ghost use Rattle.rhythm_base.specs.Grammar.{Grammar};
 ghost use Rattle.rhythm_base.specs.Leaves.{VoiceBar, soundings};
-ghost use Rattle.rhythm_base.specs.Lists.{Each};
 ghost use Rattle.rhythm_base.specs.Readable.{IsInRange};
 ghost use Rattle.rhythm_base.specs.Signatures.{IsSignature};
 ghost use Rattle.rhythm_base.specs.Voices.{voice_bar};
 ghost use Rattle.rhythm_base.specs.declared.limits.TheConstants.{LATEST_TICK};
-ghost use Rattle.std.specs.List.{flat_map};
-ghost use Rattle.std.specs.Prelude.{◌≡◌, ◌≤◌, ◌<◌, ◌++◌, List, [], ◌∷◌, All, IfOk, OnOk, map};
+ghost use Rattle.std.specs.Prelude.{◌≡◌, ◌≤◌, ◌<◌, ◌++◌, List, [], ◌∷◌, IfOk, OnOk, length};
 
-use crate::barring::Course;
 use crate::costs::asked_after;
+use crate::longer::Longer;
 use crate::next_bar::NextBar;
-use crate::offers::Offer;
 use bar_cut::sections;
 use bar_pool::AskedCell;
 use rhythm_base::{Bar, BarInput, Chord, Grammar, Pin};
@@ -81,65 +78,30 @@ fn cell_input(
     }
 }
 
-/// Appends the cell of a bar of each voice, after a list, with what is asked of it.
-fn push_cells(
+/// Appends the cell of a list's bar in a voice, with what is asked of it, if the list is not passed over.
+pub fn push_cell(
     alloc: Global,
     next: &NextBar,
-    course: &Course,
-    offer: Offer,
+    voice: usize,
+    list: &Longer<'_>,
     cells: &mut Vec<AskedCell>,
 ) -> Result<(), AllocError>
     requires next { IsNextBar next.now }
-    requires tried { IsTried next.now (barring_end course.now.barring) offer }
-    ensures { OnOk result (cells.new.items ≡ cells.old.items ++ asked_cells next.now course.now offer) }
+    requires list { IsLonger next.now list.now }
+    requires voice { voice < length next.now.voices.now }
+    ensures { OnOk result (cells.new.items ≡ cells.old.items ++ cells_in next.now voice list.now) }
 {
+    if list.is_out() {
+        return Ok(());
+    }
+    let course = list.course();
     let start = course.barring().end();
-    let end = start + offer.ticks;
+    let end = start + list.offer().ticks;
     let bar = Bar { start, ..next.like };
     let heads = course.heads();
-    let count = next.voices.len().min(heads.len());
-    'voices: for voice in 0..count {
-        let chords = next.voices[voice].chords();
-        let input = cell_input(alloc, next.grammar, chords, bar, end)?;
-        let asked = asked_after(&heads[voice]);
-        cells.push(AskedCell { input, asked })?;
-    }
+    let chords = next.voices[voice].chords();
+    let input = cell_input(alloc, next.grammar, chords, bar, end)?;
+    let asked = asked_after(&heads[voice]);
+    cells.push(AskedCell { input, asked })?;
     Ok(())
-}
-
-/// Appends the cells of the bars that are tried after a list.
-fn push_tried(
-    alloc: Global,
-    next: &NextBar,
-    course: &Course,
-    tried: &[Offer],
-    cells: &mut Vec<AskedCell>,
-) -> Result<(), AllocError>
-    requires next { IsNextBar next.now }
-    requires tried { All (IsTried next.now (barring_end course.now.barring)) tried.now }
-    ensures { OnOk result (cells.new.items ≡ cells.old.items ++ flat_map (asked_cells next.now course.now) tried.now) }
-{
-    'offers: for offer in tried {
-        push_cells(alloc, next, course, *offer, cells)?;
-    }
-    Ok(())
-}
-
-/// The cells of all bars that are tried in a round.
-pub fn round_cells(
-    alloc: Global,
-    next: &NextBar,
-    front: &[Course],
-    tried: &[Vec<Offer>],
-) -> Result<Vec<AskedCell>, AllocError>
-    requires next { IsNextBar next.now }
-    requires tried { Each (λ t own. All (IsTried next.now (barring_end t.barring)) own) front.now (map (λ own. own.items) tried.now) }
-    ensures { IfOk result (λ v. v.items ≡ all_asked next.now front.now (map (λ own. own.items) tried.now)) }
-{
-    let mut cells = Vec::new(alloc);
-    'lists: for place in 0..front.len().min(tried.len()) {
-        let course = &front[place];
-        push_tried(alloc, next, course, tried[place].as_slice(), &mut cells)?;
-    }
-    Ok(cells)
 }

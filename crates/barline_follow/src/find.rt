@@ -19,7 +19,11 @@ use least_cost::BarCosts;
 use std::alloc::{AllocError, Global};
 
 /// The heads of each voice with a bar more, of these costs.
-fn heads_with(alloc: Global, heads: &[Heads], costs: &[BarCosts]) -> Result<Vec<Heads>, AllocError>
+pub fn heads_with(
+    alloc: Global,
+    heads: &[Heads],
+    costs: &[BarCosts],
+) -> Result<Vec<Heads>, AllocError>
     requires low { All AreLowHeads heads.now }
     requires low_bars { All (λ bar. AreLowCosts bar.costs) costs.now }
     ensures { IfOk result (λ v. map (λ h. h.costs) v.items ≡ map (λ pair. costs_with_bar pair.0.costs pair.1.costs) (zip heads.now costs.now)) }

@@ -1,68 +1,82 @@
-ghost use Rattle.bar_pool.specs.Costs.{AreAllCosts};
-ghost use Rattle.bar_pool.specs.declared.order.AskedCell.{AskedCell};
-ghost use Rattle.barline_follow.specs.Barring.{barring_end};
-ghost use Rattle.barline_follow.specs.Gathering.{AreCostsFrom, GathersAll, GathersMore};
+ghost use Rattle.bar_pool.specs.Pool.{RisesWithin};
 ghost use Rattle.barline_follow.specs.Gathered.{HasGathered};
-ghost use Rattle.barline_follow.specs.NextBars.{IsCourseOf, IsNextBar, IsTried, all_asked};
-ghost use Rattle.rhythm_base.specs.Lists.{Each};
-ghost use Rattle.std.specs.Prelude.{List, All, IfOk, map};
+ghost use Rattle.barline_follow.specs.Gathering.{GathersAll, GathersMore};
+ghost use Rattle.barline_follow.specs.Longer.{draft_of};
+ghost use Rattle.barline_follow.specs.NextBars.{IsNextBar};
+ghost use Rattle.barline_follow.specs.PassedOver.{IsUntried, IsWeighed};
+ghost use Rattle.grammar_plan.specs.Plans.{IsPlan};
+ghost use Rattle.rhythm_base.specs.Counter.{risen};
+ghost use Rattle.std.specs.Prelude.{◌≡◌, ◌*◌, All, IfOk, OnOk, length, map};
 
-use crate::barring::{Barring, Course};
+use crate::barring::Barring;
+use crate::batch::cost_lists;
+use crate::crew::Crew;
 use crate::find::find;
+use crate::longer::Longer;
 use crate::next_bar::NextBar;
-use crate::offers::Offer;
 use crate::round::Round;
-use least_cost::BarCosts;
+use bar_pool::Rooms;
+use least_cost::Steps as Builds;
+use rhythm_base::Tag;
+use rhythm_ports::{Gate, Means};
 use std::alloc::{AllocError, Global};
+use std::thread::Threads;
 
-/// Gathers a list with a bar more, by each that is tried of it, from the costs of these bars. The costs that are left are those of
-/// the lists after it.
-fn add_all<'a>(
+/// Gathers what lists with a bar more come to. Those that are passed over change nothing.
+fn add_all(
     alloc: Global,
     next: &NextBar,
-    course: &Course,
-    tried: &[Offer],
-    costs: &'a [BarCosts],
+    lists: &[Longer<'_>],
     round: &mut Round,
-) -> Result<&'a [BarCosts], AllocError>
+) -> Result<(), AllocError>
     requires next { IsNextBar next.now }
-    requires course { IsCourseOf next.now next.now.number course.now }
-    requires tried { All (IsTried next.now (barring_end course.now.barring)) tried.now }
-    requires costs { (rest : List AskedCell) × AreCostsFrom next.now course.now tried.now rest costs.now }
     requires round { HasGathered round.old }
-    ensures left { (rest : List AskedCell) → AreCostsFrom next.now course.now tried.now rest costs.entry.now
-        → IfOk result (λ left. AreAllCosts next.now.grammar.now rest left.now) }
-    ensures gathered { GathersMore next.now course.now tried.now round.old result round.new }
+    requires weighed { All (IsWeighed next.now round.old (length next.now.voices.now)) lists.now }
+    ensures { GathersMore next.now (map draft_of lists.now) round.old result round.new }
 {
-    let mut left = costs;
-    'offers: for offer in tried {
-        let (own, later) = left.split_at(next.voices.len());
-        round.add(find(alloc, next, course, *offer, own)?)?;
-        left = later;
+    'lists: for list in lists {
+        if list.is_out() {
+            continue;
+        }
+        let found = find(alloc, next, list.course(), list.offer(), list.costs())?;
+        round.add(found)?;
     }
-    Ok(left)
+    Ok(())
 }
 
-/// Gathers all lists of a front with a bar more, from the costs of the bars that are tried.
-pub fn gather(
-    alloc: Global,
+/// Gathers all lists with a bar more, some of them at a time.
+pub fn gather<R: Threads + Sync, G: Gate + Sync, B: Tag>(
+    means: &Means<'_, R, G>,
     next: &NextBar,
-    front: &[Course],
-    tried: &[Vec<Offer>],
-    costs: &[BarCosts],
+    lists: Vec<Longer<'_>>,
     best: Option<Barring>,
+    crew: &Crew<'_>,
+    rooms: &mut Rooms,
+    builds: &mut Builds<B>,
 ) -> Result<Round, AllocError>
     requires next { IsNextBar next.now }
-    requires front { All (IsCourseOf next.now next.now.number) front.now }
-    requires tried { Each (λ t own. All (IsTried next.now (barring_end t.barring)) own) front.now (map (λ own. own.items) tried.now) }
-    requires costs { AreAllCosts next.now.grammar.now (all_asked next.now front.now (map (λ own. own.items) tried.now)) costs.now }
-    ensures { IfOk result (GathersAll next.now front.now (map (λ own. own.items) tried.now) best) }
+    requires plan { IsPlan next.now.grammar.now crew.now.plan.now }
+    requires lists { All (IsUntried next.now) lists.items }
+    ensures gathered { IfOk result (GathersAll next.now (map draft_of lists.entry.items) best) }
+    ensures builds { OnOk result (builds.new ≡ risen builds.old (length next.now.voices.now * length lists.entry.items)) }
+    ensures most { RisesWithin builds.old builds.new (length next.now.voices.now * length lists.entry.items) }
 {
-    let mut round = Round::begin(alloc, best);
-    let mut left = costs;
-    'lists: for place in 0..front.len().min(tried.len()) {
-        let own = tried[place].as_slice();
-        left = add_all(alloc, next, &front[place], own, left, &mut round)?;
+    let size = crew.batch();
+    let mut round = Round::begin(means.alloc, best);
+    let mut batch = lists;
+    'batches: while !batch.is_empty() {
+        let later = batch.split_off(size.min(batch.len()))?;
+        cost_lists(
+            means,
+            next,
+            &round,
+            batch.as_mut_slice(),
+            crew,
+            rooms,
+            builds,
+        )?;
+        add_all(means.alloc, next, batch.as_slice(), &mut round)?;
+        batch = later;
     }
     Ok(round)
 }

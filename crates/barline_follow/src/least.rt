@@ -47,14 +47,13 @@ fn put<T: Valued + Drop>(list: &mut Vec<T>, item: T) -> Result<(), AllocError>
     Ok(())
 }
 
-/// One at the item's tick has at most its value.
-fn has_as_low<T: Valued>(list: &[T], item: &T) -> bool
-    ensures yes { result ≡ true → (x : T) × Contains list.now x × (T.tick x ≡ T.tick item.now) × (T.value x ≤ T.value item.now) }
-    ensures no { result ≡ false → (x : T) → Contains list.now x → T.tick x ≡ T.tick item.now
-        → T.value x ≤ T.value item.now → ⊥ }
+/// One at the tick has at most this value.
+pub fn has_as_low<T: Valued>(list: &[T], tick: u64, value: u64) -> bool
+    ensures yes { result ≡ true → (x : T) × Contains list.now x × (T.tick x ≡ tick) × (T.value x ≤ value) }
+    ensures no { result ≡ false → (x : T) → Contains list.now x → T.tick x ≡ tick → T.value x ≤ value → ⊥ }
 {
     'others: for other in list {
-        if other.tick() == item.tick() && other.value() <= item.value() {
+        if other.tick() == tick && other.value() <= value {
             return true;
         }
     }
@@ -74,7 +73,7 @@ pub fn keep<T: Valued + Drop>(kept: &mut Vec<T>, item: T) -> Result<(), AllocErr
     ensures { (xs : List T) → AreFirstLeast T.value T.tick xs kept.old.items
         → OnOk result (AreFirstLeast T.value T.tick (xs ++ item ∷ []) kept.new.items) }
 {
-    if has_as_low(kept.as_slice(), &item) {
+    if has_as_low(kept.as_slice(), item.tick(), item.value()) {
         return Ok(());
     }
     clear_tick(kept, item.tick());

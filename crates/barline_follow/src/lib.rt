@@ -5,14 +5,17 @@
 
 mod barlines;
 mod barring;
+mod batch;
 mod cells;
 mod costs;
+mod crew;
 mod find;
 mod following;
 mod gather;
 mod heads;
 mod laws;
 mod least;
+mod longer;
 mod next_bar;
 mod offers;
 mod round;
@@ -22,6 +25,7 @@ mod stages;
 mod trial;
 mod tried;
 mod voice;
+mod weigh;
 
 pub use barring::Barring;
 pub use following::follow;

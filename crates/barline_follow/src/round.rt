@@ -1,9 +1,10 @@
-ghost use Rattle.barline_follow.specs.Barring.{Barring, is_below};
+ghost use Rattle.barline_follow.specs.Barring.{Barring, barring_value, course_value, is_below};
 ghost use Rattle.barline_follow.specs.Gathered.{AreAmong, AreFew, GathersOne, HasGathered, IsFrontOf, IsGathered};
-ghost use Rattle.std.specs.Prelude.{◌≡◌, [], filter, take};
+ghost use Rattle.barline_follow.specs.PassedOver.{RulesOut};
+ghost use Rattle.std.specs.Prelude.{◌≡◌, ◌<◌, ◌≤◌, [], All, Some, filter, length, take, true};
 
 use crate::barring::{Barring, Course, better};
-use crate::least::{Valued, keep};
+use crate::least::{Valued, has_as_low, keep};
 use std::alloc::{AllocError, Global};
 use std::marker::Model;
 
@@ -43,6 +44,31 @@ fn clear_above(kept: &mut Vec<Course>, best: &Option<Barring>)
     }
 }
 
+/// The best is of no more than the value.
+fn is_best_within(best: &Option<Barring>, low: u64) -> bool
+    ensures { result ≡ true → (b : Barring) × (best.now ≡ Some b) × (barring_value b ≤ low) }
+{
+    match best {
+        None => false,
+        Some(best) => best.value() <= low,
+    }
+}
+
+/// As many are kept as may be, and all of them are below the value.
+fn are_all_below(kept: &[Course], low: u64) -> bool
+    ensures { result ≡ true → (length kept.now ≡ 24) × All (λ k. course_value k < low) kept.now }
+{
+    if kept.len() != MOST_KEPT {
+        return false;
+    }
+    'kept: for course in kept {
+        if course.value() >= low {
+            return false;
+        }
+    }
+    true
+}
+
 impl Round {
     /// A round with no list yet, where there may be a best from the rounds before.
     pub fn begin(alloc: Global, best: Option<Barring>) -> Round
@@ -71,6 +97,17 @@ impl Round {
                 Ok(())
             }
         }
+    }
+
+    /// Whether a longer list that ends at the tick changes nothing, whatever it comes to that is at least this value.
+    pub fn rules_out(&self, is_closed: bool, tick: u64, low: u64) -> bool
+        ensures { result ≡ true → RulesOut is_closed tick low self.now }
+    {
+        if is_closed {
+            return is_best_within(&self.best, low);
+        }
+        let kept = self.kept.as_slice();
+        has_as_low(kept, tick, low) || are_all_below(kept, low)
     }
 
     /// The next front and the best.

@@ -10,27 +10,21 @@ ghost use Rattle.rhythm_base.specs.Readable.{IsReadable};
 ghost use Rattle.std.specs.Prelude.{◌≡◌, ◌+◌, ◌*◌, ◌≤◌, [], ◌∷◌, All, IfOk, OnOk, length};
 
 use crate::barring::{Barring, Course};
-use crate::cells::round_cells;
+use crate::crew::Crew;
 use crate::gather::gather;
 use crate::heads::Heads;
+use crate::longer::longer_lists;
 use crate::next_bar::{NextBar, bar_like, closing_tick};
 use crate::tried::front_tried;
 use crate::voice::voices_of;
 use bar_cut::check_starts;
-use bar_pool::{CostOrder, Rooms, build_all_costs};
+use bar_pool::Rooms;
 use grammar_plan::Plan;
 use least_cost::Steps as Builds;
 use rhythm_base::{Grammar, Performance, Tag};
 use rhythm_ports::{Gate, Means};
 use std::alloc::{AllocError, Global};
 use std::thread::Threads;
-
-/// By which plan and by up to how many workers cells are built.
-#[derive(Drop)]
-struct Crew<'a> {
-    plan: &'a Plan,
-    workers: u32,
-}
 
 /// The front of no bar, for so many voices.
 fn first_front(alloc: Global, voices: usize) -> Result<Vec<Course>, AllocError>
@@ -70,22 +64,15 @@ fn next_round<R: Threads + Sync, G: Gate + Sync, B: Tag>(
     ensures builds { OnOk result (RisesBy builds.old builds.new (AreBuiltInRoundOf next.now front.now)) }
     ensures most { RisesWithin builds.old builds.new (24 * 14 * length next.now.voices.now) }
 {
-    let all = front_tried(means.alloc, next, front)?;
-    let tried = all.as_slice();
-    let asked = round_cells(means.alloc, next, front, tried)?;
-    let cells = asked.as_slice();
-    let order = CostOrder {
-        grammar: next.grammar,
-        plan: crew.plan,
-        cells,
-    };
-    let costs = build_all_costs(means, &order, crew.workers, rooms, builds)?;
-    let round = gather(means.alloc, next, front, tried, costs.as_slice(), best)?;
+    let tried = front_tried(means.alloc, next, front)?;
+    let lists = longer_lists(means.alloc, front, tried.as_slice())?;
+    let round = gather(means, next, lists, best, crew, rooms, builds)?;
     Ok(round.close())
 }
 
-/// The best barlines for a performance by a grammar; none where no list is whole. All cells of a round are built by up to so many
-/// workers, one at least, each once, and only their costs.
+/// The best barlines for a performance by a grammar; none where no list is whole. The cells of a round are built by up to so many
+/// workers, one at least, each once, and only their costs. Those of a list that changes nothing of the round are counted with them,
+/// and not built.
 pub fn best_barlines<R: Threads + Sync, G: Gate + Sync, B: Tag>(
     means: &Means<'_, R, G>,
     grammar: &Grammar,

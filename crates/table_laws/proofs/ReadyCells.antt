@@ -47,7 +47,7 @@ inner_chords bar (c ∷ cs) after = go (has_onset bar c.onset) refl (inner_chord
     go false e ih = ih
 
 module _ (g : Grammar) (cs : List Inner) (readable : IsReadable g) (rise : Rising 0 cs) (after : All (λ c. c.onset ≤ c.end) cs) where
-  ready_cell : (bar : VoiceBar) → IsSignature bar.num bar.den → 1 ≤ bar.length → bar.length ≤ LATEST_TICK → IsReady g (input g bar cs)
+  pub ready_cell : (bar : VoiceBar) → IsSignature bar.num bar.den → 1 ≤ bar.length → bar.length ≤ LATEST_TICK → IsReady g (input g bar cs)
   ready_cell bar signature long short =
       let holds = input-cell g bar 0 cs long rise in
       record {
@@ -78,7 +78,7 @@ module _ (g : Grammar) (cs : List Inner) (readable : IsReadable g) (rise : Risin
 
 -- ---- a voice of a performance
 
-sound_after : (cs : List Chord) → All (λ c. c.onset ≤ c.end) cs → All (λ c. c.onset ≤ c.end) (soundings cs)
+pub sound_after : (cs : List Chord) → All (λ c. c.onset ≤ c.end) cs → All (λ c. c.onset ≤ c.end) (soundings cs)
 sound_after [] h = All-nil (λ (c : Inner). c.onset ≤ c.end)
 sound_after (c ∷ cs) h =
     all_cons (λ (c : Inner). c.onset ≤ c.end) (record { onset = c.onset; end = c.end }) (soundings cs) (all_head (λ (c : Chord). c.onset ≤ c.end) c cs h)

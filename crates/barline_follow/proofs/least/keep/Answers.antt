@@ -10,14 +10,15 @@ pub returns-then-has_as_low : goal.returns-then-has_as_low
 returns-then-has_as_low g c xs are =
     let low = c.has_as_low.ensures.yes c.if-has_as_low.true in
     same_kept g.T.Valued.value g.T.Valued.tick xs c.args.item c.args.kept.now.items are low.0
-    (subst (λ (l : List g.row.T.Denot). Contains l low.0) c.as_slice.ensures.value low.1) low.2 low.3
+    (subst (λ (l : List g.row.T.Denot). Contains l low.0) c.as_slice.ensures.value low.1) (low.2 ∙ c.tick.ensures)
+    (subst (λ (n : ℕ). g.T.Valued.value low.0 ≤ n) c.value.ensures low.3)
 
 pub put-requires : goal.put-requires
 put-requires g c =
     let elsewhere : ℕ → g.row.T.Denot → Bool = λ t x. not (nat_eq (g.T.Valued.tick x) t) in
-    let cleared : c.clear_tick.new.list.items ≡ filter (elsewhere c.tick.result) c.args.kept.now.items = c.clear_tick.ensures in
+    let cleared : c.clear_tick.new.list.items ≡ filter (elsewhere c.tick-2.result) c.args.kept.now.items = c.clear_tick.ensures in
     subst (λ (l : List g.row.T.Denot). AllPairs (Before g.T.Valued.value g.T.Valued.tick) l) (sym cleared)
-    (AllPairs-filter (Before g.T.Valued.value g.T.Valued.tick) (elsewhere c.tick.result) c.args.kept.now.items c.requires.1.in_order)
+    (AllPairs-filter (Before g.T.Valued.value g.T.Valued.tick) (elsewhere c.tick-2.result) c.args.kept.now.items c.requires.1.in_order)
 
 on_ok : {A E : Type 0} (r : Result A E) (P Q : Type 0) → (P → Q) → OnOk r P → OnOk r Q
 on_ok (Ok a) P Q f h = f h
@@ -29,9 +30,10 @@ returns g c xs are =
     let tick = g.T.Valued.tick in
     let elsewhere : ℕ → g.row.T.Denot → Bool = λ t x. not (nat_eq (tick x) t) in
     let cleared : c.clear_tick.new.list.items ≡ filter (elsewhere (tick c.args.item)) c.args.kept.now.items =
-    c.clear_tick.ensures ∙ ap (λ (t : ℕ). filter (elsewhere t) c.args.kept.now.items) c.tick.ensures in
+    c.clear_tick.ensures ∙ ap (λ (t : ℕ). filter (elsewhere t) c.args.kept.now.items) c.tick-2.ensures in
     let none : (k : g.row.T.Denot) → Contains c.args.kept.now.items k → tick k ≡ tick c.args.item → value k ≤ value c.args.item → ⊥ =
-    λ k there. c.has_as_low.ensures.no c.if-has_as_low.false k (subst (λ (l : List g.row.T.Denot). Contains l k) (sym c.as_slice.ensures.value) there) in
+    λ k there at le. c.has_as_low.ensures.no c.if-has_as_low.false k (subst (λ (l : List g.row.T.Denot). Contains l k) (sym c.as_slice.ensures.value) there)
+    (at ∙ sym c.tick.ensures) (subst (λ (n : ℕ). value k ≤ n) (sym c.value.ensures) le) in
     let new = new_kept value tick xs c.args.item c.args.kept.now.items are none in
     on_ok c.put.result (c.put.new.list.items ≡ list_with (place_of value tick) c.args.item c.clear_tick.new.list.items)
     (AreFirstLeast value tick (xs ++ (c.args.item ∷ [])) c.put.new.list.items)
