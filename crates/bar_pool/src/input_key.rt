@@ -3,7 +3,7 @@ ghost use Rattle.bar_pool.specs.EqualLaws.{inputs_equiv, writes_alike};
 ghost use Rattle.bar_pool.specs.Equal.{input_writes, same_input, same_shape};
 ghost use Rattle.std.specs.Cmp.{on_equiv, partial_equiv_from_equiv};
 ghost use Rattle.std.specs.Option.{option_eq};
-ghost use Rattle.std.specs.Prelude.{◌≡◌, option_map};
+ghost use Rattle.std.specs.Prelude.{◌≡◌, ◌↔◌, IsTrue, option_map};
 
 use rhythm_base::{BarInput, Shape};
 use std::hash::{Hash, Hasher};
@@ -54,8 +54,15 @@ fn mixed(sum: u64, number: u64) -> u64
     sum.wrapping_mul(0x9e37_79b9_7f4a_7c15).wrapping_add(number)
 }
 
-/// One number of an input, for the hasher, which is then handed no others.
-fn digest(input: &BarInput) -> u64
+/// Whether two inputs are equal.
+pub fn are_equal(one: &BarInput, other: &BarInput) -> bool
+    ensures { IsTrue result ↔ (one.now ≡ other.now) }
+{
+    InputKey { input: one } == InputKey { input: other }
+}
+
+/// One number of an input: of equal inputs the same one. A hasher is handed no others.
+pub fn digest(input: &BarInput) -> u64
     ensures { result ≡ equal.digest input.now }
 {
     let head = mixed(

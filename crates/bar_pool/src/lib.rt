@@ -22,6 +22,7 @@ mod workers;
 pub use draws::{
     Draw, DrawCounts, DrawRule, DrawSeat, DrawTable, HalfShare, SeatView, SharedDraws, Takeover,
 };
+pub use input_key::{are_equal, digest};
 pub use job::Job;
 pub use laws::draws_keep_their_law;
 pub use order::{AskedCell, CostOrder, Order};

@@ -41,3 +41,4 @@ pub mod NoteParts
 pub mod SameSides
 pub mod TouchedNotes
 pub mod TouchedBars
+pub mod StandingTables

@@ -17,4 +17,5 @@ pub mod ChangedVoices
 pub mod Exchange
 pub mod Products
 pub mod Effects
+pub mod Standing
 pub mod Touched

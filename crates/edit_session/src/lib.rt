@@ -20,6 +20,7 @@ mod reached;
 mod score;
 mod session;
 mod span;
+mod standing;
 mod voice_tables;
 
 pub use ask_fault::AskFault;

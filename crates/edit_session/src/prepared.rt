@@ -106,6 +106,13 @@ impl Prepared {
         &self.next
     }
 
+    /// Its tables.
+    pub(crate) fn cells(&self) -> &[CellTable]
+        ensures { result.now ≡ self.now.tables }
+    {
+        self.tables.as_slice()
+    }
+
     /// The number of its tables.
     pub fn tables(&self) -> u64
         ensures { result ≡ length self.now.tables }

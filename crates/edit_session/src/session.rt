@@ -48,6 +48,7 @@ use crate::prepared::{CellTable, Prepared, placed_tables};
 use crate::preparing::place_for;
 use crate::reached::{ReachedCells, reached_cells};
 use crate::score::{score_bars, whole_score};
+use crate::standing::{Standing, taken_over};
 use crate::voice_tables::VoiceTables;
 use bar_alternatives::Alternative;
 use bar_pool::{Order, Rooms, build_cells};
@@ -71,6 +72,7 @@ pub struct Session {
     performance: Performance,
     workers: u32,
     voices: Vec<VoiceTables>,
+    standing: Standing,
     room: u32,
 }
 
@@ -124,12 +126,14 @@ impl Session {
                 bar: dead.bar,
             });
         }
+        let standing = Standing::new(means.alloc, count * bars)?;
         Ok(Session {
             grammar,
             plan,
             performance,
             workers,
             voices,
+            standing,
             room: bars as u32,
         })
     }
@@ -244,7 +248,7 @@ impl Session {
         Ok(())
     }
 
-    /// The table of each of these cells: each is built once.
+    /// The table of each of these cells: each is built once, or taken over where for each of them one of an equal input stands.
     fn reached_tables<R: Threads + Sync, G: Gate + Sync, B: Tag>(
         &self,
         means: &Means<'_, R, G>,
@@ -259,6 +263,12 @@ impl Session {
         ensures most { RisesWithin builds.old builds.new (length reached.now.cells.items) }
     {
         let inputs = reached.inputs.as_slice();
+        let channels = self.performance.channels();
+        let voices = self.voices.as_slice();
+        if let Some(found) = self.standing.tables(means.alloc, channels, voices, inputs)? {
+            let tables = taken_over(means, found.as_slice(), builds)?;
+            return placed_tables(means.alloc, reached.cells.as_slice(), tables);
+        }
         let order = Order {
             grammar: &self.grammar,
             plan: &self.plan,
@@ -380,6 +390,17 @@ impl Session {
         }
     }
 
+    /// Notes where the tables of an edit are to stand, and before the first one where all of them stand.
+    fn note(&mut self, prepared: &Prepared)
+        ensures { self.new ≡ self.old }
+    {
+        if !self.standing.is_filled {
+            let channels = self.performance.channels();
+            self.standing.fill(channels, self.voices.as_slice());
+        }
+        self.standing.note_all(prepared.cells());
+    }
+
     /// Makes an edit, and gives the way back; or says why it is refused: `prepare`, `reserve` and `commit`. All memory is taken before
     /// the session changes, and after each refusal it stands where it stood. The products are those of `commit`, and none where the
     /// edit is refused for anything but a voice that would have no derivation.
@@ -399,6 +420,7 @@ impl Session {
         ensures products { HasMultipliedFor self.old edit.now result products.old products.new }
     {
         let prepared = self.prepare(means, edit, builds)?;
+        self.note(&prepared);
         let bars = prepared.next().bars().len() as u32;
         if let Err(_error) = self.reserve(bars) {
             return Err(EditFault::Memory);

@@ -12,7 +12,7 @@ use Rattle.edit_session.proofs.Tables.{opened, tables_cheap, tables_count}
 use Rattle.edit_session.proofs.Voices.{all_derivations, are_kept, dead_voice}
 use Rattle.edit_session.proofs.session.Session.open.Goals as goal
 use Rattle.edit_session.proofs.session.Session.open.Given.{Over}
-use Rattle.edit_session.proofs.session.Session.open.Goals.{In_default}
+use Rattle.edit_session.proofs.session.Session.open.Goals.{In_ok-standing}
 
 pub voices_of-requires-clause-tables : goal.voices_of-requires-clause-tables
 voices_of-requires-clause-tables g c κs within =
@@ -48,7 +48,7 @@ returns-in-Some-clause-fault g c =
     (c.in_ok-opening.ensures.few, subst (λ cs. IsDeadVoice g p (get_or cs c.in-Some.dead.voice 0) c.in-Some.dead.bar) (sym c.channels.ensures) dead)
 
 -- the voices are kept, since over the tables of each a path leads
-kept : (g : Over) (c : In_default g) → Each (IsKeptVoice c.args.grammar c.args.performance (length c.bars-bars.result.now)) c.args.performance.channels c.in_ok-voices.voices.items
+kept : (g : Over) (c : In_ok-standing g) → Each (IsKeptVoice c.args.grammar c.args.performance (length c.bars-bars.result.now)) c.args.performance.channels c.in_ok-voices.voices.items
 kept g c =
     let tables = opened c.args.grammar c.args.performance c.in_ok-opening.opening.tables.items c.in_ok-voices.voices.items (length c.channels-count.result.now) (length c.bars-bars.result.now)
     c.in_ok-opening.ensures.tables (ap length c.channels-count.ensures) (ap length c.bars-bars.ensures.value) c.in_ok-voices.ensures.voices c.in_ok-voices.ensures.bars c.in_ok-voices.ensures.tables in
