@@ -390,15 +390,15 @@ impl Session {
         }
     }
 
-    /// Notes where the tables of an edit are to stand, and before the first one where all of them stand.
-    fn note(&mut self, prepared: &Prepared)
+    /// Keeps the places where the tables of an edit are to stand, and before the first edit those of all tables.
+    fn keep_places(&mut self, prepared: &Prepared)
         ensures { self.new ≡ self.old }
     {
         if !self.standing.is_filled {
             let channels = self.performance.channels();
             self.standing.fill(channels, self.voices.as_slice());
         }
-        self.standing.note_all(prepared.cells());
+        self.standing.keep_all(prepared.cells());
     }
 
     /// Makes an edit, and gives the way back; or says why it is refused: `prepare`, `reserve` and `commit`. All memory is taken before
@@ -420,7 +420,7 @@ impl Session {
         ensures products { HasMultipliedFor self.old edit.now result products.old products.new }
     {
         let prepared = self.prepare(means, edit, builds)?;
-        self.note(&prepared);
+        self.keep_places(&prepared);
         let bars = prepared.next().bars().len() as u32;
         if let Err(_error) = self.reserve(bars) {
             return Err(EditFault::Memory);

@@ -21,8 +21,8 @@ struct Hint {
     bar: usize,
 }
 
-/// The cells where the tables stand, by the digests of their inputs. They are hints: of two inputs that come to the same place the
-/// later is noted, and another table may stand there since. So whoever goes there looks at the input of the table.
+/// The cells where tables stand, by the digests of their inputs. They are hints: of two inputs that come to the same place the later one
+/// is kept, and another table may stand in its cell since. So whoever goes there looks at the input of the table.
 #[derive(Drop)]
 pub struct Standing {
     cells: Vec<Hint>,
@@ -30,7 +30,7 @@ pub struct Standing {
 }
 
 impl Standing {
-    /// Places for so many cells, with none noted.
+    /// Places for so many cells, with none kept.
     pub fn new(alloc: Global, count: usize) -> Result<Standing, AllocError> {
         let nowhere = Hint { channel: 0, bar: 0 };
         let mut cells = Vec::with_capacity(alloc, count)?;
@@ -49,46 +49,46 @@ impl Standing {
         ((digest(input) >> 32) % count) as usize
     }
 
-    /// The cell that is noted for an input.
+    /// The cell that is kept for an input.
     fn cell(&self, input: &BarInput) -> Option<Hint> {
         self.cells.get(self.place(input)).copied()
     }
 
-    /// Notes the cell of an input.
-    fn note(&mut self, cell: Hint, input: &BarInput) {
+    /// Keeps the cell of an input.
+    fn keep(&mut self, cell: Hint, input: &BarInput) {
         let place = self.place(input);
-        if let Some(noted) = self.cells.get_mut(place) {
-            *noted = cell;
+        if let Some(kept) = self.cells.get_mut(place) {
+            *kept = cell;
         }
     }
 
-    /// Notes the cells of a voice.
-    fn note_voice(&mut self, channel: u8, tables: &[BarTable]) {
+    /// Keeps the cells of a voice.
+    fn keep_voice(&mut self, channel: u8, tables: &[BarTable]) {
         'bars: for bar in 0..tables.len() {
-            self.note(Hint { channel, bar }, tables[bar].input());
+            self.keep(Hint { channel, bar }, tables[bar].input());
         }
     }
 
-    /// Notes the cells of all voices.
+    /// Keeps the cells of all voices.
     pub fn fill(&mut self, channels: &[u8], voices: &[VoiceTables]) {
         'voices: for (channel, voice) in channels.iter().zip(voices.iter()) {
-            self.note_voice(*channel, voice.tables());
+            self.keep_voice(*channel, voice.tables());
         }
         self.is_filled = true;
     }
 
-    /// Notes the cells of these tables.
-    pub fn note_all(&mut self, tables: &[CellTable]) {
+    /// Keeps the cells of these tables.
+    pub fn keep_all(&mut self, tables: &[CellTable]) {
         'tables: for own in tables {
             let cell = Hint {
                 channel: own.channel,
                 bar: own.bar as usize,
             };
-            self.note(cell, own.table.input());
+            self.keep(cell, own.table.input());
         }
     }
 
-    /// The table that stands in the cell that is noted for an input, if its own input is equal to that.
+    /// The table that stands in the cell that is kept for an input, if its own input is equal to that.
     fn table<'a>(
         &self,
         channels: &[u8],

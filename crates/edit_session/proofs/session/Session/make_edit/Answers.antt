@@ -31,17 +31,17 @@ pub returns-in-Ok-clause-made : goal.returns-in-Ok-clause-made
 returns-in-Ok-clause-made g c =
     let x = c.in_ok-prepared.prepared in
     let bars : length c.bars.result.now ≡ length x.next.bars = ap length c.bars.ensures.value ∙ ap (λ (p : Performance). length p.bars) c.next.ensures in
-    let raised : c.reserve.new.self.room ≡ max c.args.self.now.room (length x.next.bars) = c.in_default.ensures.ok ∙ ap₂ max (ap room_of c.note.ensures) bars in
-    applied c.args.self.now c.reserve.new.self c.commit.new.self c.args.edit.now x c.in_ok-prepared.ensures.next (c.reserve.ensures.grammar ∙ ap grammar_of c.note.ensures) (c.reserve.ensures.workers ∙ ap workers_of c.note.ensures)
-    (c.reserve.ensures.performance ∙ ap performance_of c.note.ensures) raised c.in-Ok.committed c.in_ok-prepared.ensures.suits c.in-Ok.ensures.made
+    let raised : c.reserve.new.self.room ≡ max c.args.self.now.room (length x.next.bars) = c.in_default.ensures.ok ∙ ap₂ max (ap room_of c.keep_places.ensures) bars in
+    applied c.args.self.now c.reserve.new.self c.commit.new.self c.args.edit.now x c.in_ok-prepared.ensures.next (c.reserve.ensures.grammar ∙ ap grammar_of c.keep_places.ensures) (c.reserve.ensures.workers ∙ ap workers_of c.keep_places.ensures)
+    (c.reserve.ensures.performance ∙ ap performance_of c.keep_places.ensures) raised c.in-Ok.committed c.in_ok-prepared.ensures.suits c.in-Ok.ensures.made
 
 pub returns-in-Ok-clause-way_back : goal.returns-in-Ok-clause-way_back
 returns-in-Ok-clause-way_back g c =
     let x = c.in_ok-prepared.prepared in
     let bars : length c.bars.result.now ≡ length x.next.bars = ap length c.bars.ensures.value ∙ ap (λ (p : Performance). length p.bars) c.next.ensures in
-    let raised : c.reserve.new.self.room ≡ max c.args.self.now.room (length x.next.bars) = c.in_default.ensures.ok ∙ ap₂ max (ap room_of c.note.ensures) bars in
-    way_back c.args.self.now c.reserve.new.self c.commit.new.self c.args.edit.now x c.in_ok-prepared.ensures.next (c.reserve.ensures.grammar ∙ ap grammar_of c.note.ensures) (c.reserve.ensures.workers ∙ ap workers_of c.note.ensures)
-    (c.reserve.ensures.performance ∙ ap performance_of c.note.ensures) raised c.in-Ok.committed c.in-Ok.ensures.made
+    let raised : c.reserve.new.self.room ≡ max c.args.self.now.room (length x.next.bars) = c.in_default.ensures.ok ∙ ap₂ max (ap room_of c.keep_places.ensures) bars in
+    way_back c.args.self.now c.reserve.new.self c.commit.new.self c.args.edit.now x c.in_ok-prepared.ensures.next (c.reserve.ensures.grammar ∙ ap grammar_of c.keep_places.ensures) (c.reserve.ensures.workers ∙ ap workers_of c.keep_places.ensures)
+    (c.reserve.ensures.performance ∙ ap performance_of c.keep_places.ensures) raised c.in-Ok.committed c.in-Ok.ensures.made
 
 pub returns-in-Ok-clause-builds : goal.returns-in-Ok-clause-builds
 returns-in-Ok-clause-builds g c = (let built = c.in-Ok.ensures.made.built in let is = c.in_ok-prepared.ensures.builds in omega (arith, built, is))
@@ -55,8 +55,8 @@ returns-in_err-prepared-clause-rejected g c =
 
 pub returns-in-Err-clause-rejected : goal.returns-in-Err-clause-rejected
 returns-in-Err-clause-rejected g c =
-    rejected_memory c.args.self.now c.reserve.new.self c.args.edit.now c.in_ok-prepared.prepared.next c.in_ok-prepared.ensures.next (c.reserve.ensures.grammar ∙ ap grammar_of c.note.ensures) (c.reserve.ensures.workers ∙ ap workers_of c.note.ensures)
-    (c.reserve.ensures.performance ∙ ap performance_of c.note.ensures) (c.in-Err.ensures.err ∙ ap room_of c.note.ensures)
+    rejected_memory c.args.self.now c.reserve.new.self c.args.edit.now c.in_ok-prepared.prepared.next c.in_ok-prepared.ensures.next (c.reserve.ensures.grammar ∙ ap grammar_of c.keep_places.ensures) (c.reserve.ensures.workers ∙ ap workers_of c.keep_places.ensures)
+    (c.reserve.ensures.performance ∙ ap performance_of c.keep_places.ensures) (c.in-Err.ensures.err ∙ ap room_of c.keep_places.ensures)
 
 pub returns-in-Err-clause-built : goal.returns-in-Err-clause-built
 returns-in-Err-clause-built g c =
@@ -67,9 +67,9 @@ pub returns-in-Err-commit-clause-rejected : goal.returns-in-Err-commit-clause-re
 returns-in-Err-commit-clause-rejected g c =
     let x = c.in_ok-prepared.prepared in
     let bars : length c.bars.result.now ≡ length x.next.bars = ap length c.bars.ensures.value ∙ ap (λ (p : Performance). length p.bars) c.next.ensures in
-    let raised : c.reserve.new.self.room ≡ max c.args.self.now.room (length x.next.bars) = c.in_default.ensures.ok ∙ ap₂ max (ap room_of c.note.ensures) bars in
-    dead c.args.self.now c.reserve.new.self c.commit.new.self c.args.edit.now x c.in_ok-prepared.ensures.next (c.reserve.ensures.grammar ∙ ap grammar_of c.note.ensures) (c.reserve.ensures.workers ∙ ap workers_of c.note.ensures)
-    (c.reserve.ensures.performance ∙ ap performance_of c.note.ensures) raised c.in-Err-commit.dead c.in-Err-commit.ensures.unchanged c.in-Err-commit.ensures.given_up
+    let raised : c.reserve.new.self.room ≡ max c.args.self.now.room (length x.next.bars) = c.in_default.ensures.ok ∙ ap₂ max (ap room_of c.keep_places.ensures) bars in
+    dead c.args.self.now c.reserve.new.self c.commit.new.self c.args.edit.now x c.in_ok-prepared.ensures.next (c.reserve.ensures.grammar ∙ ap grammar_of c.keep_places.ensures) (c.reserve.ensures.workers ∙ ap workers_of c.keep_places.ensures)
+    (c.reserve.ensures.performance ∙ ap performance_of c.keep_places.ensures) raised c.in-Err-commit.dead c.in-Err-commit.ensures.unchanged c.in-Err-commit.ensures.given_up
 
 pub returns-in-Err-commit-clause-built : goal.returns-in-Err-commit-clause-built
 returns-in-Err-commit-clause-built g c =
@@ -89,11 +89,11 @@ returns-in-Err-commit-clause-products g c =
     let x = c.in_ok-prepared.prepared in
     let s = c.args.self.now in
     dead_edit s.grammar s.performance x.next c.args.edit.now c.args.products.now c.commit.new.products c.in_ok-prepared.ensures.next {A = Committed} c.in-Err-commit.dead.channel c.in-Err-commit.dead.bar
-    (subst₂ (λ h p. AreProductsOf 2 h p x.next c.args.products.now c.commit.new.products) (c.reserve.ensures.grammar ∙ ap grammar_of c.note.ensures) (c.reserve.ensures.performance ∙ ap performance_of c.note.ensures) c.in-Err-commit.ensures.products)
+    (subst₂ (λ h p. AreProductsOf 2 h p x.next c.args.products.now c.commit.new.products) (c.reserve.ensures.grammar ∙ ap grammar_of c.keep_places.ensures) (c.reserve.ensures.performance ∙ ap performance_of c.keep_places.ensures) c.in-Err-commit.ensures.products)
 
 pub returns-in-Ok-clause-products : goal.returns-in-Ok-clause-products
 returns-in-Ok-clause-products g c =
     let x = c.in_ok-prepared.prepared in
     let s = c.args.self.now in
     made_edit s.grammar s.performance x.next c.args.edit.now c.args.products.now c.commit.new.products c.in_ok-prepared.ensures.next c.in-Ok.committed
-    (subst₂ (λ h p. AreProductsOf 1 h p x.next c.args.products.now c.commit.new.products) (c.reserve.ensures.grammar ∙ ap grammar_of c.note.ensures) (c.reserve.ensures.performance ∙ ap performance_of c.note.ensures) c.in-Ok.ensures.products)
+    (subst₂ (λ h p. AreProductsOf 1 h p x.next c.args.products.now c.commit.new.products) (c.reserve.ensures.grammar ∙ ap grammar_of c.keep_places.ensures) (c.reserve.ensures.performance ∙ ap performance_of c.keep_places.ensures) c.in-Ok.ensures.products)
